@@ -1,0 +1,5 @@
+pub mod Running
+pub mod Forests
+pub mod Ceilings
+pub mod Whole
+pub mod Made

@@ -1,0 +1,4 @@
+pub mod Said
+pub mod Ways
+pub mod Climbing
+pub mod Projecting
