@@ -57,7 +57,7 @@ said-mem d (r ∷ w) a (suc k) l e i = with-more (row-arc d r) (arcs-from (d + 1
 
 module _ (w : List Row) where
   -- what is read of a word of the table
-  into-row : (d : ℕ) → 1 ≤ d → d ≤ length w → arc-into w d ≡ row-arc d (row-at w (d - 1))
+  pub into-row : (d : ℕ) → 1 ≤ d → d ≤ length w → arc-into w d ≡ row-arc d (row-at w (d - 1))
   into-row d p q = cond-false (eqb d 0) None _ (ne-eqb d 0 (λ e. omega arith)) ∙ cond-false (ltb (length w) d) None _ (le-ltb (length w) d q)
 
   -- only a word of the table has an arc

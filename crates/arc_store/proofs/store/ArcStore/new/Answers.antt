@@ -1,0 +1,6 @@
+use Rattle.arc_store.specs.Drawing.{bare}
+use Rattle.std.proofs.shelf.Lists.{take-replicate}
+use Rattle.arc_store.proofs.store.ArcStore.new.Needs as need
+
+pub returns : need.returns
+returns c = take-replicate (c .args .words .count) 100 bare (c .args .words .small)
