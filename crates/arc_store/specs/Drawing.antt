@@ -47,5 +47,5 @@ arc-verdict w a =
 
 -- the arc was drawn beside the others, or the store is as it was
 abbrev pub Drawn : ArcStore → Arc → Result Arc Refusal → ArcStore → Type 0
-Drawn s a (Ok b) t = (b ≡ a) × (arc-verdict (rows-of s) a ≡ Ok a) × (rows-of t ≡ put (rows-of s) a)
+Drawn s a (Ok b) t = (b ≡ a) × (arc-verdict (rows-of s) a ≡ Ok a) × (rows-of t ≡ put (rows-of s) a) × (t .words .count ≡ s .words .count)
 Drawn s a (Err e) t = (arc-verdict (rows-of s) a ≡ Err e) × (t ≡ s)

@@ -17,7 +17,8 @@ use treebank::words::WordCount;
 impl ArcStore {
     /// A sentence of so many words without arcs.
     pub fn new(words: WordCount) -> ArcStore
-        ensures { λ r. ⌜ rows-of r ≡ replicate (words .count) bare ⌝ }
+        ensures bare { λ r. ⌜ rows-of r ≡ replicate (words .count) bare ⌝ }
+        ensures words { λ r. ⌜ r .words .count ≡ words .count ⌝ }
     {
         ArcStore { words, rows: [Row { head: Row::NO_HEAD, label: 0 }; 100] }
     }

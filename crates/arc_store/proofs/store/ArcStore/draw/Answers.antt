@@ -1,4 +1,4 @@
-use mathlib.Core.Path.{_≡_, sym, ap, subst, _∙_}
+use mathlib.Core.Path.{_≡_, refl, sym, ap, subst, _∙_}
 use Prim.Native.Nat.{_-_}
 use Rattle.std.specs.declared.result.Result.the-variants.{Ok}
 use Rattle.treebank.specs.declared.arcs.Arc.{Arc}
@@ -16,4 +16,5 @@ returns c =
     let e : arc-verdict (rows-of s) a ≡ Ok b = sym (c .in-Continue-arc .ensures tt .answer) in
     let i : b ≡ a = verdict-same (rows-of s) a b e in
     (i, subst (λ (x : Arc). arc-verdict (rows-of s) a ≡ Ok x) i e,
-     take-changed (s .words .count) (b .word - 1) (s .rows) (row (b .head) (b .label)) ∙ ap (put (rows-of s)) i)
+     take-changed (s .words .count) (b .word - 1) (s .rows) (row (b .head) (b .label)) ∙ ap (put (rows-of s)) i,
+     refl)

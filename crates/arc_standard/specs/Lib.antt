@@ -1,0 +1,4 @@
+pub mod Configurations
+pub mod Moves
+pub mod Nivre
+pub mod Held

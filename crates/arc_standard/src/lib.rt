@@ -1,0 +1,5 @@
+//! Arc-standard: Shift, Left-Arc and Right-Arc over a stack and a buffer.
+
+pub mod system;
+
+pub use system::ArcStandard;
