@@ -1,7 +1,9 @@
 ghost use mathlib.Core.Path.{_≡_};
 ghost use Rattle.std.specs.Results.{Cases};
+ghost use Rattle.transition.specs.Runs.{Arises};
 ghost use Rattle.arc_standard.specs.Configurations.{start, emptied};
 ghost use Rattle.arc_standard.specs.Moves.{arc-standard, verdict, next};
+ghost use Rattle.arc_standard.specs.Nivre.{As-defined};
 ghost use Rattle.arc_standard.specs.Held.{held, Open, Top-two, Stepped};
 
 use super::ArcStandard;
@@ -74,6 +76,17 @@ impl ArcStandard {
         self.depth -= 1;
         Ok(Some(arc))
     }
+
+    fn make(&mut self, m: Move) -> Result<Option<Arc>, Fault>
+        ensures { λ r. ⌜ Stepped (now (self .entry)) m r (now (self .exit)) ⌝ }
+    {
+        match m {
+            Move::Shift => self.shift(),
+            Move::LeftArc(label) => self.left_arc(label),
+            Move::RightArc(label) => self.right_arc(label),
+            Move::Reduce | Move::NoArc => Err(Fault::from(Refusal::ForeignMove)),
+        }
+    }
 }
 
 pub impl System for ArcStandard as ArcStandardSystem {
@@ -130,13 +143,15 @@ pub impl System for ArcStandard as ArcStandardSystem {
         Ok(Some(self.arcs.permission(arc)?))
     }
 
-    fn step(&mut self, m: Move) -> Result<Option<Arc>, Fault> {
-        match m {
-            Move::Shift => self.shift(),
-            Move::LeftArc(label) => self.left_arc(label),
-            Move::RightArc(label) => self.right_arc(label),
-            Move::Reduce | Move::NoArc => Err(Fault::from(Refusal::ForeignMove)),
-        }
+    /// Besides what every system promises: on each configuration that arises, the move is accepted exactly where Nivre's
+    /// definition has a transition, and does what that does.
+    fn step(&mut self, m: Move) -> Result<Option<Arc>, Fault>
+        ensures answer { λ r. ⌜ r ≡ verdict (held (now (self .entry))) m ⌝ }
+        ensures moved { λ r. ⌜ Cases r (λ _. held (now (self .exit)) ≡ next (held (now (self .entry))) m) (λ _. now (self .exit) ≡ now (self .entry)) ⌝ }
+        ensures alike { λ _. ⌜ start ≡ start ⌝ }
+        ensures defined { λ r. ⌜ (Arises arc-standard start (held (now (self .entry))) → As-defined (held (now (self .entry))) m r (held (now (self .exit)))) ⌝ }
+    {
+        self.make(m)
     }
 
     fn number(&self) -> u8 {

@@ -1,5 +1,6 @@
 use mathlib.Core.Path.{_≡_, refl, sym}
 use Rattle.std.proofs.shelf.Results.{err-from-errBy}
+use Rattle.arc_store.specs.Drawing.{rows-of}
 use Rattle.arc_standard.proofs.Same.{same-system}
 use Rattle.arc_standard.proofs.Steps.{left-refused, left-drawn}
 use Rattle.arc_standard.proofs.system.ArcStandard.left_arc.Needs as need
@@ -16,4 +17,4 @@ pub returns : need.returns
 returns c =
     let (two, top) = c .in-Continue-i .ensures tt in
     let (same, v, e, kept) = c .in-Continue-arc .ensures tt in
-    left-drawn (c .args .self .now) (c .in-Continue-unfinished .ensures tt) (c .args .label) (c .in-Continue-i .i) (c .in-Continue-i .j) two top (c .in-Continue-arc .arc) _ same v e
+    left-drawn (c .args .self .now) (c .in-Continue-unfinished .ensures tt) (c .args .label) (c .in-Continue-i .i) (c .in-Continue-i .j) two top (c .in-Continue-arc .arc) (rows-of (c .draw .last .self)) same v e

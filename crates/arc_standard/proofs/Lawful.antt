@@ -1,0 +1,142 @@
+-- Arc-standard keeps the laws.
+use mathlib.Core.Path.{_≡_, refl, sym, ap, subst, _∙_}
+use mathlib.Core.Logic.{_⊎_, inl, inr, _↔_}
+use mathlib.Core.List.{List, [], _∷_}
+use mathlib.Core.Bool.{Bool, true, false, cond}
+use Prim.Native.Nat.{ℕ, _+_, _-_, _*_, _≤_, _<_}
+use native.Mathlib.Omega.{arith}
+use lib.Dec.{eqb}
+use lib.ListN.{length, length-replicate}
+use Rattle.std.proofs.shelf.Tests.{both-ways, true≢false}
+use Rattle.std.specs.Options.{isSome}
+use Rattle.std.specs.declared.option.Option.{Option}
+use Rattle.std.specs.declared.option.Option.the-variants.{Some, None}
+use Rattle.std.specs.declared.result.Result.{Result}
+use Rattle.std.specs.declared.result.Result.the-variants.{Ok, Err}
+use Rattle.treebank.specs.declared.arcs.Arc.{Arc}
+use Rattle.treebank.specs.declared.moves.Move.{Move}
+use Rattle.treebank.specs.declared.moves.Move.the-variants.{Shift, LeftArc, RightArc, Reduce, NoArc}
+use Rattle.treebank.specs.declared.rows.Row.{Row}
+use Rattle.treebank.specs.declared.refusals.Refusal.{Refusal}
+use Rattle.treebank.specs.declared.refusals.Refusal.the-variants.{ForeignMove, Finished, TooFewNodes, IntoRoot, HasHead, WouldCircle}
+use Rattle.treebank.specs.Refusals.{number}
+use Rattle.treebank.specs.Tables.{arc, arc-into, table-arcs}
+use Rattle.treebank.specs.Trees.{Same-arcs}
+use Rattle.treebank.proofs.Said.{into-word, into-mem, mem-into}
+use Rattle.transition.specs.declared.faults.Fault.{Fault}
+use Rattle.transition.specs.Meaning.{Verdict, fault}
+use Rattle.transition.specs.Runs.{Arises}
+use Rattle.transition.specs.Laws.{Begins, Arc-into, Draws, Foreign, Laws}
+use Rattle.arc_store.specs.Drawing.{bare, put, outside, circles, arc-verdict}
+use Rattle.arc_store.proofs.Putting.{put-length, put-fresh, none-drawn}
+use Rattle.arc_standard.specs.Configurations.{Configuration, configuration, words, start, finished, emptied, top-two, remaining}
+use Rattle.arc_standard.specs.Moves.{own, refused, drawn, between, left-arc, right-arc, verdict, next, arc-standard}
+use Rattle.arc_standard.proofs.Accepted.{Makes, makes, impossible, passed}
+use Rattle.arc_standard.proofs.Kept.{Kept, kept}
+
+begins : (n : ℕ) → n ≤ 100 → Begins arc-standard n (start n)
+begins n h = record {
+    words = length-replicate n bare;
+    bare = none-drawn 1 n;
+    full = omega (arith, length-replicate n bare);
+    limit = omega arith }
+
+-- what is told of the arc into a word
+pub told-arc : (w : List Row) (d : ℕ) (o : Option Arc) → arc-into w d ≡ o → Arc-into (length w) (table-arcs w) d o
+told-arc w d None e = λ a m f. let z : None ≡ Some a = sym e ∙ ap (arc-into w) (sym f) ∙ mem-into w m in let y : _≡_ {A = ℕ} 0 1 = cc in omega arith
+told-arc w d (Some a) e = let (lo, hi, same) = into-word w d a e in (into-mem w d a e, same, lo, hi)
+
+draws : {c d : Configuration} {m : Move} {a : Option Arc} → Makes c m a d → d ≡ next c m → words c ≤ 100 → Draws arc-standard c m a
+draws (Makes.shift h) e small = (refl, λ x. (λ m. m, λ m. m))
+draws (Makes.left {j = j} {i = i} {l = l} {w = w} f) e small = (refl, put-fresh w (arc j l i) small f, f)
+draws (Makes.right {j = j} {i = i} {l = l} {w = w} f) e small = (refl, put-fresh w (arc i l j) small f, f)
+
+falls : {c d : Configuration} {m : Move} {a : Option Arc} → Makes c m a d → (words d ≡ words c) × (remaining d < remaining c)
+falls (Makes.shift h) = (refl, omega arith)
+falls (Makes.left {j = j} {i = i} {l = l} {w = w} f) = let same = put-length w (arc j l i) in (same, omega arith)
+falls (Makes.right {j = j} {i = i} {l = l} {w = w} f) = let same = put-length w (arc i l j) in (same, omega arith)
+
+-- a refusal of one of the system's own moves: of level 0, and not as foreign
+Usual : Verdict → Type 0
+Usual (Ok a) = Unit {0}
+Usual (Err f) = (f .level ≡ 0) × (f .refusal ≡ ForeignMove → ⊥)
+
+differ : (x y : Refusal) → (number x ≡ number y → ⊥) → x ≡ y → ⊥
+differ x y n e = n (ap number e)
+
+usual-test : (why : Refusal) (b : Bool) (v : Verdict) → (number why ≡ 3 → ⊥) → Usual v → Usual (cond b (refused why) v)
+unfolding Usual
+usual-test why true v n u = (refl, differ why ForeignMove n)
+usual-test why false v n u = u
+
+usual-stored : (why : Refusal) (b : Bool) (r : Result Arc Refusal) → (number why ≡ 3 → ⊥) → Usual (drawn r) → Usual (drawn (cond b (Err why) r))
+unfolding Usual
+usual-stored why true r n u = (refl, differ why ForeignMove n)
+usual-stored why false r n u = u
+
+usual-arc : (w : List Row) (a : Arc) → Usual (drawn (arc-verdict w a))
+unfolding Usual
+usual-arc w a =
+    usual-stored TooFewNodes (outside w a) _ (λ e. omega arith)
+    (usual-stored IntoRoot (eqb (a .word) 0) _ (λ e. omega arith)
+    (usual-stored HasHead (isSome (arc-into w (a .word))) _ (λ e. omega arith)
+    (usual-stored WouldCircle (circles w a) _ (λ e. omega arith) tt)))
+
+usual-between : (w : List Row) (draw : ℕ → ℕ → Arc) (o : Option (ℕ × ℕ)) → Usual (between w draw o)
+unfolding Usual
+usual-between w draw None = (refl, differ TooFewNodes ForeignMove (λ e. omega arith))
+usual-between w draw (Some (i, j)) = usual-arc w (draw i j)
+
+usual : (c : Configuration) (m : Move) → own m ≡ true → Usual (verdict c m)
+unfolding Usual
+usual c Shift o = usual-test Finished (finished c) _ (λ e. omega arith) (usual-test TooFewNodes (emptied c) _ (λ e. omega arith) tt)
+usual c (LeftArc l) o = usual-test Finished (finished c) _ (λ e. omega arith) (usual-between (c .rows) (left-arc l) (top-two (c .stack)))
+usual c (RightArc l) o = usual-test Finished (finished c) _ (λ e. omega arith) (usual-between (c .rows) (right-arc l) (top-two (c .stack)))
+usual c Reduce o = absurd (true≢false (sym o))
+usual c NoArc o = absurd (true≢false (sym o))
+
+not-foreign : (v : Verdict) → Usual v → Foreign v → ⊥
+unfolding Usual
+not-foreign (Ok a) u f = f
+not-foreign (Err f) u e = u .1 e
+
+foreign : (c : Configuration) (m : Move) → Foreign (verdict c m) ↔ (own m ≡ false)
+foreign c Shift = (λ f. absurd (not-foreign _ (usual c Shift refl) f), λ e. absurd (true≢false e))
+foreign c (LeftArc l) = (λ f. absurd (not-foreign _ (usual c (LeftArc l) refl) f), λ e. absurd (true≢false e))
+foreign c (RightArc l) = (λ f. absurd (not-foreign _ (usual c (RightArc l) refl) f), λ e. absurd (true≢false e))
+foreign c Reduce = (λ f. refl, λ e. refl)
+foreign c NoArc = (λ f. refl, λ e. refl)
+
+level-zero : (v : Verdict) (f : Fault) → Usual v → v ≡ Err f → f .level ≤ 0
+unfolding Usual
+level-zero (Ok a) f u e = absurd (let z : _≡_ {A = ℕ} 0 1 = cc in omega arith)
+level-zero (Err g) f u e = let same : g ≡ f = cc in let l = u .0 in omega (arith, ap (λ (x : Fault). x .level) same)
+
+foreign-level : (f : Fault) → _≡_ {A = Verdict} (refused ForeignMove) (Err f) → f .level ≤ 0
+foreign-level f e = let same : fault ForeignMove 0 ≡ f = cc in omega (arith, ap (λ (x : Fault). x .level) same)
+
+levels : (c : Configuration) (m : Move) (f : Fault) → verdict c m ≡ Err f → f .level ≤ 0
+levels c Shift f e = level-zero _ f (usual c Shift refl) e
+levels c (LeftArc l) f e = level-zero _ f (usual c (LeftArc l) refl) e
+levels c (RightArc l) f e = level-zero _ f (usual c (RightArc l) refl) e
+levels c Reduce f e = foreign-level f e
+levels c NoArc f e = foreign-level f e
+
+stops : (c : Configuration) (m : Move) (a : Option Arc) → finished c ≡ true → verdict c m ≡ Ok a → ⊥
+stops c Shift a e v = both-ways (finished c) (passed Finished (finished c) _ v .0) e
+stops c (LeftArc l) a e v = both-ways (finished c) (passed Finished (finished c) _ v .0) e
+stops c (RightArc l) a e v = both-ways (finished c) (passed Finished (finished c) _ v .0) e
+stops c Reduce a e v = impossible v
+stops c NoArc a e v = impossible v
+
+pub lawful : Laws arc-standard start
+lawful = record {
+    beginning = begins;
+    questions = λ {c} d h. told-arc (c .rows) d (arc-into (c .rows) d) refl;
+    stepping = λ {c} m a h v. falls (makes c m a v) .0;
+    drawing = λ {c} m a h v. draws (makes c m a v) refl (kept h .small);
+    falling = λ {c} m a h v. falls (makes c m a v) .1;
+    stopping = λ {c} m a h e v. stops c m a e v;
+    foreign = foreign;
+    levels = levels;
+    numbers = (omega arith, omega arith) }
