@@ -1,5 +1,6 @@
 -- The line of a move: its kind and its label, 0 for a move without an arc.
 use mathlib.Core.Path.{_≡_}
+use mathlib.Core.List.{List}
 use mathlib.Core.Bool.{cond}
 use Prim.Native.Nat.{ℕ}
 use lib.Dec.{leb, eqb}
@@ -10,9 +11,10 @@ use Rattle.std.specs.declared.result.Result.the-variants.{Ok, Err}
 use Rattle.treebank.specs.declared.moves.Move.{Move}
 use Rattle.treebank.specs.declared.moves.Move.the-variants.{Shift, LeftArc, RightArc, Reduce, NoArc}
 use Rattle.treebank.specs.declared.refusals.Refusal.{Refusal}
-use Rattle.treebank.specs.declared.refusals.Refusal.the-variants.{BadLabel, ForeignMove}
+use Rattle.treebank.specs.declared.refusals.Refusal.the-variants.{BadLabel, ForeignMove, NotASheetLine}
 use Rattle.treebank.specs.Moves.{kind, label, Proper}
 use Rattle.run_sheet.specs.declared.lines.SheetLine.{SheetLine}
+use Rattle.run_sheet.specs.Texts.{said}
 
 -- how a line writes the label of a move
 abbrev pub label-number : Option ℕ → ℕ
@@ -43,6 +45,14 @@ listed k l =
 -- the move that a line says
 abbrev pub to-move : SheetLine → Result Move Refusal
 to-move l = listed (l .first) (l .second)
+
+-- the move that the line at the beginning of a text says
+abbrev pub line-move : Option SheetLine → Result Move Refusal
+line-move None = Err NotASheetLine
+line-move (Some l) = to-move l
+
+abbrev pub move-said : List ℕ → Result Move Refusal
+move-said t = line-move (said t)
 
 -- a proper move whose line this is, and a refusal only where it is no proper move's line
 abbrev pub Says-move : SheetLine → Result Move Refusal → Type 0

@@ -4,6 +4,9 @@
 //! for a move without an arc.
 
 pub mod lines;
+pub mod playing;
 
 pub use lines::SheetLine;
 pub use lines::hex_value;
+pub use lines::read_heading;
+pub use lines::read_move;

@@ -7,8 +7,8 @@ ghost use Rattle.std.specs.declared.result.Result.the-variants.{Ok};
 ghost use Rattle.treebank.specs.Moves.{Proper};
 ghost use Rattle.run_sheet.specs.Digits.{value, digit, pair, Valued};
 ghost use Rattle.run_sheet.specs.Texts.{written, said, Stands, Wrote};
-ghost use Rattle.run_sheet.specs.Says.{of-move, to-move, Says-move};
-ghost use Rattle.run_sheet.specs.Headings.{headed, words-said, counted, Says-words};
+ghost use Rattle.run_sheet.specs.Says.{of-move, to-move, move-said, Says-move};
+ghost use Rattle.run_sheet.specs.Headings.{headed, words-said, heading-said, counted, Says-words};
 use treebank::Move;
 use treebank::Refusal;
 use treebank::WordCount;
@@ -146,5 +146,26 @@ impl SheetLine {
             return Err(Refusal::OtherSentence);
         }
         Ok(words)
+    }
+}
+
+/// The move that the line at the beginning of the text says; `NotASheetLine` where none stands there.
+pub fn read_move(text: &[u8]) -> Result<Move, Refusal>
+    ensures { λ r. ⌜ r ≡ move-said (now (text .entry)) ⌝ }
+{
+    match SheetLine::read(text) {
+        Some(line) => line.to_move(),
+        None => Err(Refusal::NotASheetLine),
+    }
+}
+
+/// The word count that the first line of a sheet says for this system: `NotASheetLine`, then `TooManyWords`, then
+/// `OtherSentence`.
+pub fn read_heading(text: &[u8], system: u8) -> Result<WordCount, Refusal>
+    ensures { λ r. ⌜ counted r ≡ heading-said system (now (text .entry)) ⌝ }
+{
+    match SheetLine::read(text) {
+        Some(line) => line.words_for(system),
+        None => Err(Refusal::NotASheetLine),
     }
 }

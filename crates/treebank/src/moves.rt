@@ -3,6 +3,8 @@ ghost use mathlib.Core.Logic.{_↔_};
 ghost use mathlib.Core.Bool.{true};
 ghost use Rattle.treebank.specs.Moves.{kind, label, Proper};
 
+use std::fmt;
+
 /// A transition by name; the two arc moves carry the number of the label that they draw with.
 #[derive(Clone, Copy, Debug)]
 pub enum Move {
@@ -45,6 +47,18 @@ impl Move {
         match self.label() {
             Some(label) => 1 <= label && label <= 200,
             None => true,
+        }
+    }
+}
+
+pub impl fmt::Display for Move as MoveDisplay {
+    fn fmt<W: fmt::Write>(&self, f: &mut fmt::Formatter<W>) -> fmt::Result {
+        match self {
+            Move::Shift => f.write_str("Shift"),
+            Move::LeftArc(label) => write!(f, "Left-Arc {label}"),
+            Move::RightArc(label) => write!(f, "Right-Arc {label}"),
+            Move::Reduce => f.write_str("Reduce"),
+            Move::NoArc => f.write_str("No-Arc"),
         }
     }
 }

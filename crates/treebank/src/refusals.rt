@@ -68,4 +68,42 @@ impl Refusal {
             Refusal::MovesStand => 32,
         }
     }
+
+    /// The refusal in words.
+    fn words(self) -> &'static str {
+        match self {
+            Refusal::TooManyWords => "more than 100 words",
+            Refusal::BadLabel => "an arc label outside 1 to 200, or a label on a move without an arc",
+            Refusal::ForeignMove => "a move that this system does not have",
+            Refusal::WrongRowCount => "not as many rows as words",
+            Refusal::BadRow => "a row that is not good",
+            Refusal::NotASheetLine => "not a sheet line, or no first line",
+            Refusal::OtherSentence => "the first line is not this system's or this sentence's",
+            Refusal::NotTenColumns => "not ten non-empty columns",
+            Refusal::WrongId => "an ID that is not the next number from 1",
+            Refusal::BadHead => "a HEAD that is no node of the sentence, or no head in one column alone",
+            Refusal::UnknownLabel => "a relation that is not listed",
+            Refusal::BadLabelList => "over 200 names, or an empty name",
+            Refusal::BufferTooSmall => "too few rows or bytes lent",
+            Refusal::Finished => "the sentence is finished",
+            Refusal::TooFewNodes => "no node for this move",
+            Refusal::IntoRoot => "an arc into the root",
+            Refusal::HasHead => "the dependent has a head already",
+            Refusal::HasNoHead => "the node to reduce has no head",
+            Refusal::WouldCircle => "the head stands below its dependent",
+            Refusal::Unreachable => "the table cannot be reached",
+            Refusal::NothingToUndo => "no move to undo",
+            Refusal::CheckpointStands => "a checkpoint stands",
+            Refusal::NoSuchCheckpoint => "no checkpoint here for this ticket",
+            Refusal::SecondRootArc => "a second arc from the root",
+            Refusal::LabelNotInSet => "a label outside the set",
+            Refusal::MovesStand => "moves stand already",
+        }
+    }
+}
+
+pub impl fmt::Display for Refusal as RefusalDisplay {
+    fn fmt<W: fmt::Write>(&self, f: &mut fmt::Formatter<W>) -> fmt::Result {
+        f.write_str(self.words())
+    }
 }
