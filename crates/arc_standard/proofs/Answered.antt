@@ -6,11 +6,11 @@ use Rattle.treebank.specs.declared.moves.Move.{Move}
 use Rattle.transition.specs.Meaning.{Verdict}
 use Rattle.transition.specs.Runs.{Arises}
 use Rattle.arc_standard.specs.declared.system.ArcStandard.{ArcStandard}
-use Rattle.arc_standard.specs.Configurations.{start}
-use Rattle.arc_standard.specs.Moves.{verdict, next, arc-standard}
-use Rattle.arc_standard.specs.Nivre.{As-defined}
+use Rattle.arc_standard_theory.specs.Configurations.{start}
+use Rattle.arc_standard_theory.specs.Moves.{verdict, next, arc-standard}
+use Rattle.arc_standard_theory.specs.Nivre.{As-defined}
 use Rattle.arc_standard.specs.Held.{held, Stepped}
-use Rattle.arc_standard.proofs.Defined.{defined}
+use Rattle.arc_standard_theory.proofs.Defined.{defined}
 
 module _ (s t : ArcStandard) (m : Move) where
   pub answer : (v : Verdict) → Stepped s m v t → v ≡ verdict (held s) m

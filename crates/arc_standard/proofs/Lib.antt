@@ -1,9 +1,4 @@
 pub mod Stacked
 pub mod Same
 pub mod Steps
-pub mod Accepted
-pub mod Descending
-pub mod Kept
-pub mod Lawful
-pub mod Defined
 pub mod Answered

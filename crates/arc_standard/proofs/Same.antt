@@ -8,7 +8,7 @@ use native.Mathlib.Bridge.{le-prop}
 use lib.ListN.{length}
 use Rattle.arc_store.specs.declared.store.ArcStore.{ArcStore}
 use Rattle.arc_standard.specs.declared.system.ArcStandard.{ArcStandard}
-use Rattle.arc_standard.specs.Configurations.{Configuration, configuration}
+use Rattle.arc_standard_theory.specs.Configurations.{Configuration, configuration}
 use Rattle.treebank.specs.declared.rows.Row.{Row}
 
 pub same-system : (s t : ArcStandard) → s .stack ≡ t .stack → s .depth ≡ t .depth → s .front ≡ t .front → s .arcs ≡ t .arcs → s ≡ t

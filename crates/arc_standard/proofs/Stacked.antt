@@ -9,7 +9,7 @@ use lib.ListN.{length, getD, set, take}
 use Rattle.std.proofs.shelf.Lists.{take-more, take-more-set, reverse-append}
 use Rattle.std.specs.declared.option.Option.the-variants.{Some, None}
 use Rattle.arc_standard.specs.declared.system.ArcStandard.{ArcStandard}
-use Rattle.arc_standard.specs.Configurations.{root-alone, top-two}
+use Rattle.arc_standard_theory.specs.Configurations.{root-alone, top-two}
 
 module _ (xs : List ℕ) where
   -- one node more

@@ -13,8 +13,8 @@ use Rattle.treebank.specs.declared.refusals.Refusal.the-variants.{Finished, Too
 use Rattle.transition.specs.Meaning.{Verdict}
 use Rattle.arc_store.specs.Drawing.{rows-of}
 use Rattle.arc_standard.specs.declared.system.ArcStandard.{ArcStandard}
-use Rattle.arc_standard.specs.Configurations.{Configuration, configuration, finished, top-two}
-use Rattle.arc_standard.specs.Moves.{verdict, next}
+use Rattle.arc_standard_theory.specs.Configurations.{Configuration, configuration, finished, top-two}
+use Rattle.arc_standard_theory.specs.Moves.{verdict, next}
 
 abbrev pub stack-of : ArcStandard → List ℕ
 stack-of s = reverse (take (s .depth) (s .stack))

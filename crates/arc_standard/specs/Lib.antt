@@ -1,4 +1,1 @@
-pub mod Configurations
-pub mod Moves
-pub mod Nivre
 pub mod Held

@@ -19,4 +19,5 @@ pub struct ArcStandard {
 }
 
 pub mod calls;
+pub mod guide;
 pub mod moves;

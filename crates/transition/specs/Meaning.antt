@@ -6,6 +6,7 @@ use Rattle.std.specs.declared.option.Option.{Option}
 use Rattle.std.specs.declared.result.Result.{Result}
 use Rattle.treebank.specs.declared.arcs.Arc.{Arc}
 use Rattle.treebank.specs.declared.moves.Move.{Move}
+use Rattle.treebank.specs.declared.rows.Row.{Row}
 use Rattle.treebank.specs.declared.refusals.Refusal.{Refusal}
 use Rattle.transition.specs.declared.faults.Fault.{Fault}
 
@@ -29,6 +30,8 @@ pub record Meaning : Type 1 where
   -- of a move: whether it is permitted, and what it leads to
   pub verdict : Config → Move → Verdict
   pub next : Config → Move → Config
+  -- of a wanted table: the move to make next, if there is advice; none everywhere for a system that is not guided
+  pub advice : Config → List Row → Option Move
   -- of the system: its own moves, the most moves for so many words, its number, and the layers that it has
   pub own : Move → Bool
   pub ceiling : ℕ → ℕ

@@ -2,3 +2,4 @@ pub mod Said
 pub mod Ways
 pub mod Climbing
 pub mod Projecting
+pub mod Goodness

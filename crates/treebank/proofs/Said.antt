@@ -7,13 +7,13 @@ use Prim.Native.Nat.{ℕ, zero, suc, _+_, _-_, _≤_, _<_}
 use native.Mathlib.Omega.{arith}
 use lib.ListN.{length}
 use lib.Dec.{eqb, ltb}
-use Rattle.std.proofs.shelf.Tests.{eqb-true, eqb-false, eq-eqb, ne-eqb, ltb-false, le-ltb, cond-false}
+use Rattle.std.proofs.shelf.Tests.{eqb-true, eqb-false, eq-eqb, ne-eqb, ltb-false, le-ltb, cond-true, cond-false}
 use Rattle.std.specs.declared.option.Option.{Option}
 use Rattle.std.specs.declared.option.Option.the-variants.{Some, None}
 use Rattle.treebank.specs.declared.arcs.Arc.{Arc}
 use Rattle.treebank.specs.declared.rows.Row.{Row}
-use Rattle.treebank.specs.Tables.{row, arc, row-at, row-arc, arc-into, with-arc, arcs-from, table-arcs}
-use Rattle.treebank.specs.Trees.{_∈_, Single-headed}
+use Rattle.treebank.specs.Tables.{row, arc, row-at, row-arc, arc-into, from-head, arc-between, with-arc, arcs-from, table-arcs}
+use Rattle.treebank.specs.Trees.{_∈_, Heads, Single-headed, Joining}
 
 -- the row at place k says the arc, where the first row is of word d
 abbrev Says : ℕ → List Row → Arc → Type 0
@@ -99,3 +99,27 @@ module _ (w : List Row) where
   table-single a b m n e =
       let i : Some a ≡ Some b = sym (mem-into m) ∙ ap (arc-into w) e ∙ mem-into n in
       cc
+
+  -- what the table says of an arc from h into d
+  pub joining : (h d : ℕ) (o : Option Arc) → o ≡ arc-between w h d → Joining (table-arcs w) h d o
+  joining h d o e = at (arc-into w d) refl o e
+    where
+      keep : (a : Arc) → arc-into w d ≡ Some a → (b : Bool) → eqb (a .head) h ≡ b → (o : Option Arc) → o ≡ cond b (Some a) None → Joining (table-arcs w) h d o
+      keep a i true t None e = absurd (let z : _≡_ {A = ℕ} 0 1 = cc in omega arith)
+      keep a i true t (Some b) e = let same : a ≡ b = cc in subst (λ (x : Arc). (x ∈ table-arcs w) × (x .head ≡ h) × (x .word ≡ d)) same (into-mem d a i, eqb-true _ _ t, into-word d a i .2)
+      keep a i false t None e = λ (l, m). let same : Some (arc h l d) ≡ Some a = sym (mem-into m) ∙ i in let f : arc h l d ≡ a = cc in eqb-false (a .head) h t (ap (λ (x : Arc). x .head) (sym f))
+      keep a i false t (Some b) e = absurd (let z : _≡_ {A = ℕ} 0 1 = cc in omega arith)
+      at : (i : Option Arc) → arc-into w d ≡ i → (o : Option Arc) → o ≡ from-head h i → Joining (table-arcs w) h d o
+      at None i None e = λ (l, m). let z : None ≡ Some (arc h l d) = sym i ∙ mem-into m in let y : _≡_ {A = ℕ} 0 1 = cc in omega arith
+      at None i (Some b) e = absurd (let z : _≡_ {A = ℕ} 0 1 = cc in omega arith)
+      at (Some a) i o e = keep a i (eqb (a .head) h) refl o e
+
+  -- how an arc from h into d is found
+  pub between-none : (h d : ℕ) → None ≡ arc-into w d → None ≡ arc-between w h d
+  between-none h d e = ap (from-head h) e
+
+  pub between-here : (h d : ℕ) (a : Arc) → Some a ≡ arc-into w d → a .head ≡ h → Some a ≡ arc-between w h d
+  between-here h d a e f = sym (ap (from-head h) (sym e) ∙ cond-true (eqb (a .head) h) (Some a) None (eq-eqb _ _ f))
+
+  pub between-other : (h d : ℕ) (a : Arc) → Some a ≡ arc-into w d → (a .head ≡ h → ⊥) → None ≡ arc-between w h d
+  between-other h d a e f = sym (ap (from-head h) (sym e) ∙ cond-false (eqb (a .head) h) (Some a) None (ne-eqb _ _ f))

@@ -2,10 +2,10 @@
 use mathlib.Core.Path.{_≡_}
 use mathlib.Core.Logic.{_⊎_}
 use mathlib.Core.List.{List, [], _∷_}
-use mathlib.Core.Bool.{Bool, true, false, cond}
+use mathlib.Core.Bool.{Bool, true, false, cond, _&&_, _||_}
 use Prim.Native.Nat.{ℕ, _+_, _-_, _≤_, _<_}
 use lib.ListN.{length, getD}
-use lib.Dec.{eqb, ltb}
+use lib.Dec.{eqb, ltb, leb}
 use Rattle.std.specs.declared.option.Option.{Option}
 use Rattle.std.specs.declared.option.Option.the-variants.{Some, None}
 use Rattle.treebank.specs.declared.arcs.Arc.{Arc}
@@ -38,6 +38,17 @@ pub record Good-table (n : ℕ) (w : List Row) : Type 0 where
   pub rows : length w ≡ n
   pub good : All-rows (Good-row n) w
 
+-- the tests of a row and of a table
+abbrev pub good-row? : ℕ → Row → Bool
+good-row? n r = (eqb (r .head) 255 && eqb (r .label) 0) || (leb (r .head) n && (leb 1 (r .label) && leb (r .label) 200))
+
+abbrev pub good-rows? : ℕ → List Row → Bool
+good-rows? n [] = true
+good-rows? n (r ∷ w) = good-row? n r && good-rows? n w
+
+abbrev pub good-table? : ℕ → List Row → Bool
+good-table? n w = eqb (length w) n && good-rows? n w
+
 -- the first row that is not good
 abbrev pub First-bad : ℕ → List Row → Option ℕ → Type 0
 First-bad n w None = All-rows (Good-row n) w
@@ -50,6 +61,14 @@ row-arc d r = cond (eqb (r .head) 255) None (Some (arc (r .head) (r .label) d))
 -- the arc into word d; none outside the table
 abbrev pub arc-into : List Row → ℕ → Option Arc
 arc-into w d = cond (eqb d 0) None (cond (ltb (length w) d) None (row-arc d (row-at w (d - 1))))
+
+-- the arc from h into word d, if the table has one
+abbrev pub from-head : ℕ → Option Arc → Option Arc
+from-head h None = None
+from-head h (Some a) = cond (eqb (a .head) h) (Some a) None
+
+abbrev pub arc-between : List Row → ℕ → ℕ → Option Arc
+arc-between w h d = from-head h (arc-into w d)
 
 abbrev pub with-arc : Option Arc → List Arc → List Arc
 with-arc None arcs = arcs

@@ -3,10 +3,12 @@ use mathlib.Core.Path.{_≡_}
 use mathlib.Core.Logic.{_⊎_}
 use mathlib.Core.List.{List, List·Memᴰ}
 use Prim.Native.Nat.{ℕ, _≤_, _<_}
+use Rattle.std.specs.declared.option.Option.{Option}
+use Rattle.std.specs.declared.option.Option.the-variants.{Some, None}
 use Rattle.treebank.specs.declared.arcs.Arc.{Arc}
 use Rattle.treebank.specs.declared.rows.Row.{Row}
 use Rattle.treebank.specs.Moves.{Label}
-use Rattle.treebank.specs.Tables.{Headless, All-rows, table-arcs}
+use Rattle.treebank.specs.Tables.{arc, Headless, All-rows, table-arcs}
 
 infix 40 _∈_
 
@@ -18,6 +20,10 @@ a ∈ arcs = List·Memᴰ a arcs
 pub data Above (arcs : List Arc) : ℕ → ℕ → Type 0 where
   one : {a : Arc} → a ∈ arcs → Above arcs (a .head) (a .word)
   more : {x : ℕ} {a : Arc} → Above arcs x (a .head) → a ∈ arcs → Above arcs x (a .word)
+
+-- some arc leads from h to d
+abbrev pub Heads : List Arc → ℕ → ℕ → Type 0
+Heads arcs h d = (l : ℕ) × (arc h l d ∈ arcs)
 
 -- no node stands above itself
 abbrev pub Acyclic : List Arc → Type 0
@@ -71,3 +77,8 @@ pub record Fresh (n : ℕ) (arcs : List Arc) (a : Arc) : Type 0 where
   pub headless : (b : Arc) → b ∈ arcs → b .word ≡ a .word → ⊥
   pub apart : a .head ≡ a .word → ⊥
   pub not-below : Above arcs (a .word) (a .head) → ⊥
+
+-- the arc from h into d; none where no arc leads from h into d
+abbrev pub Joining : List Arc → ℕ → ℕ → Option Arc → Type 0
+Joining arcs h d None = Heads arcs h d → ⊥
+Joining arcs h d (Some a) = (a ∈ arcs) × (a .head ≡ h) × (a .word ≡ d)

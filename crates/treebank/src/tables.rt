@@ -1,8 +1,8 @@
 ghost use mathlib.Core.Path.{_≡_};
 ghost use mathlib.Core.Logic.{_↔_};
 ghost use mathlib.Core.Bool.{true};
-ghost use Rattle.treebank.specs.Tables.{Good-row, First-bad, arc-into, row-arc, table-arcs};
-ghost use Rattle.treebank.specs.Trees.{Above, Covered};
+ghost use Rattle.treebank.specs.Tables.{Good-row, Good-table, good-table?, First-bad, arc-into, arc-between, row-arc, table-arcs};
+ghost use Rattle.treebank.specs.Trees.{Above, Covered, Joining};
 ghost use Rattle.treebank.specs.Climbs.{comes-to};
 ghost use Rattle.treebank.specs.Projectivity.{Told-projective};
 
@@ -48,6 +48,20 @@ pub fn first_bad_row(words: WordCount, rows: &[Row]) -> Option<usize>
     None
 }
 
+/// Whether the rows are a good table of so many words: as many rows, all good.
+pub fn is_good_table(words: WordCount, rows: &[Row]) -> bool
+    ensures value { λ r. ⌜ r ≡ good-table? (words .count) (now (rows .entry)) ⌝ }
+    ensures good { λ r. ⌜ ((r ≡ true) ↔ Good-table (words .count) (now (rows .entry))) ⌝ }
+{
+    if rows.len() != words.get() as usize {
+        return false;
+    }
+    match first_bad_row(words, rows) {
+        Some(_) => false,
+        None => true,
+    }
+}
+
 /// The arc into a word; none for a number that is no word of the table.
 pub fn arc_into(rows: &[Row], word: u8) -> Option<Arc>
     ensures { λ r. ⌜ r ≡ arc-into (now (rows .entry)) word ⌝ }
@@ -59,6 +73,22 @@ pub fn arc_into(rows: &[Row], word: u8) -> Option<Arc>
         return None;
     }
     rows[word as usize - 1].arc(word)
+}
+
+/// The arc from a head into a word, if the table has it.
+pub fn arc_between(rows: &[Row], head: u8, word: u8) -> Option<Arc>
+    ensures value { λ r. ⌜ r ≡ arc-between (now (rows .entry)) head word ⌝ }
+    ensures joining { λ r. ⌜ Joining (table-arcs (now (rows .entry))) head word r ⌝ }
+{
+    match arc_into(rows, word) {
+        Some(arc) => {
+            if arc.head == head {
+                return Some(arc);
+            }
+            None
+        }
+        None => None,
+    }
 }
 
 /// Whether `node` stands above `word`: climbs from the word, head by head, as many arcs as there are rows.

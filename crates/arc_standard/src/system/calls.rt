@@ -1,6 +1,6 @@
 ghost use mathlib.Core.Path.{_≡_};
 ghost use mathlib.Core.List.{reverse};
-ghost use Rattle.arc_standard.specs.Configurations.{start};
+ghost use Rattle.arc_standard_theory.specs.Configurations.{start};
 ghost use Rattle.arc_standard.specs.Held.{held, stack-of};
 
 use super::ArcStandard;

@@ -1,9 +1,9 @@
 ghost use mathlib.Core.Path.{_≡_};
 ghost use Rattle.std.specs.Results.{Cases};
 ghost use Rattle.transition.specs.Runs.{Arises};
-ghost use Rattle.arc_standard.specs.Configurations.{start, emptied};
-ghost use Rattle.arc_standard.specs.Moves.{arc-standard, verdict, next};
-ghost use Rattle.arc_standard.specs.Nivre.{As-defined};
+ghost use Rattle.arc_standard_theory.specs.Configurations.{start, emptied};
+ghost use Rattle.arc_standard_theory.specs.Moves.{arc-standard, verdict, next};
+ghost use Rattle.arc_standard_theory.specs.Nivre.{As-defined};
 ghost use Rattle.arc_standard.specs.Held.{held, Open, Top-two, Stepped};
 
 use super::ArcStandard;
@@ -17,7 +17,7 @@ use transition::system::System;
 
 impl ArcStandard {
     /// Whether no word is left in the buffer.
-    fn is_emptied(&self) -> bool
+    pub(super) fn is_emptied(&self) -> bool
         ensures { λ r. ⌜ r ≡ emptied (held (now (self .entry))) ⌝ }
     {
         self.front > self.arcs.words().get()
@@ -34,7 +34,7 @@ impl ArcStandard {
     }
 
     /// The second node of the stack and its top.
-    fn top_two(&self) -> Result<(u8, u8), Refusal>
+    pub(super) fn top_two(&self) -> Result<(u8, u8), Refusal>
         ensures { λ r. ⌜ Top-two (now (self .entry)) r ⌝ }
     {
         if self.depth < 2 {

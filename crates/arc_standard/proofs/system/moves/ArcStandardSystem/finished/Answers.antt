@@ -2,7 +2,7 @@ use mathlib.Core.Path.{_≡_, sym}
 use mathlib.Core.Bool.{false}
 use native.Mathlib.Omega.{arith}
 use Rattle.std.proofs.shelf.Tests.{and-left}
-use Rattle.arc_standard.specs.Configurations.{root-alone, emptied}
+use Rattle.arc_standard_theory.specs.Configurations.{root-alone, emptied}
 use Rattle.arc_standard.specs.Held.{held, stack-of}
 use Rattle.arc_standard.proofs.Stacked.{deep-alone, in-room}
 use Rattle.arc_standard.proofs.system.moves.ArcStandardSystem.finished.Needs as need

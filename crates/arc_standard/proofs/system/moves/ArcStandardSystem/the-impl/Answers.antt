@@ -1,4 +1,4 @@
-use Rattle.arc_standard.proofs.Lawful.{lawful}
+use Rattle.arc_standard_theory.proofs.Lawful.{lawful}
 use Rattle.arc_standard.proofs.system.moves.ArcStandardSystem.the-impl.Needs as need
 
 pub laws-law : need.laws-law

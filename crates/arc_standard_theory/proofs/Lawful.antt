@@ -29,10 +29,10 @@ use Rattle.transition.specs.Runs.{Arises}
 use Rattle.transition.specs.Laws.{Begins, Arc-into, Draws, Foreign, Laws}
 use Rattle.arc_store.specs.Drawing.{bare, put, outside, circles, arc-verdict}
 use Rattle.arc_store.proofs.Putting.{put-length, put-fresh, none-drawn}
-use Rattle.arc_standard.specs.Configurations.{Configuration, configuration, words, start, finished, emptied, top-two, remaining}
-use Rattle.arc_standard.specs.Moves.{own, refused, drawn, between, left-arc, right-arc, verdict, next, arc-standard}
-use Rattle.arc_standard.proofs.Accepted.{Makes, makes, impossible, passed}
-use Rattle.arc_standard.proofs.Kept.{Kept, kept}
+use Rattle.arc_standard_theory.specs.Configurations.{Configuration, configuration, words, start, finished, emptied, top-two, remaining}
+use Rattle.arc_standard_theory.specs.Moves.{own, refused, drawn, between, left-arc, right-arc, verdict, next, arc-standard}
+use Rattle.arc_standard_theory.proofs.Accepted.{Makes, makes, impossible, passed}
+use Rattle.arc_standard_theory.proofs.Kept.{Kept, kept}
 
 begins : (n : ℕ) → n ≤ 100 → Begins arc-standard n (start n)
 begins n h = record {

@@ -15,7 +15,8 @@ use Rattle.treebank.specs.declared.refusals.Refusal.the-variants.{ForeignMove, 
 use Rattle.treebank.specs.Tables.{arc, arc-into, table-arcs}
 use Rattle.transition.specs.Meaning.{Meaning, Verdict, fault}
 use Rattle.arc_store.specs.Drawing.{put, arc-verdict}
-use Rattle.arc_standard.specs.Configurations.{Configuration, configuration, words, emptied, finished, top-two, remaining}
+use Rattle.arc_standard_theory.specs.Configurations.{Configuration, configuration, words, emptied, finished, top-two, remaining}
+use Rattle.arc_standard_theory.specs.Advice.{advice}
 
 abbrev pub own : Move → Bool
 own Shift = true
@@ -82,6 +83,7 @@ arc-standard = record {
     remaining = remaining;
     verdict = verdict;
     next = next;
+    advice = advice;
     own = own;
     ceiling = λ n. 2 * n;
     number = 1;

@@ -17,10 +17,11 @@ use Rattle.transition.specs.Runs.{Arises}
 use Rattle.transition.proofs.Running.{arises-keeps}
 use Rattle.arc_store.specs.Drawing.{put, bare}
 use Rattle.arc_store.proofs.Putting.{put-length, put-fresh, none-drawn}
-use Rattle.arc_standard.specs.Configurations.{Configuration, configuration, words, start}
-use Rattle.arc_standard.specs.Moves.{arc-standard}
-use Rattle.arc_standard.proofs.Accepted.{Makes, makes}
-use Rattle.arc_standard.proofs.Descending.{Under, under-mem, under-more, Play, Place, place, play-second, play-top, play-not-second, play-not-top, play-shift, play-unshift}
+use Rattle.arc_standard_theory.specs.Configurations.{Configuration, configuration, words, start}
+use Rattle.arc_standard_theory.specs.Moves.{arc-standard}
+use Rattle.arc_standard_theory.proofs.Accepted.{Makes, makes}
+use Rattle.arc_standard_theory.proofs.Descending.{Under, under-mem, under-more, Place, place, play-second, play-top, play-not-second, play-not-top, play-shift, play-unshift}
+use Rattle.arc_standard_theory.specs.Viable.{Play}
 
 -- on the stack or in the buffer
 abbrev pub In : Configuration → ℕ → Type 0

@@ -10,7 +10,7 @@ use Rattle.treebank.specs.declared.moves.Move.the-variants.{Shift, LeftArc, Rig
 use Rattle.treebank.specs.Tables.{arc, table-arcs}
 use Rattle.treebank.specs.Trees.{Same-arcs}
 use Rattle.transition.specs.Meaning.{Verdict}
-use Rattle.arc_standard.specs.Configurations.{Configuration, words}
+use Rattle.arc_standard_theory.specs.Configurations.{Configuration, words}
 
 -- a stack with its top first, a buffer, and a set of arcs
 pub record Triple : Type 0 where

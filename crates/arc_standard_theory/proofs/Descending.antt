@@ -5,6 +5,7 @@ use mathlib.Core.List.{List, [], _∷_, List·Memᴰ, List·Memᴰ·head, List·
 use Prim.Native.Nat.{ℕ, _+_, _≤_, _<_}
 use native.Mathlib.Omega.{arith}
 use Rattle.std.proofs.shelf.Tests.{cases-lt}
+use Rattle.arc_standard_theory.specs.Viable.{Play}
 
 -- strictly descending from below b
 abbrev pub Under : ℕ → List ℕ → Type 0
@@ -19,10 +20,6 @@ under-mem b (y ∷ st) u (List·Memᴰ·tail m) = let t = under-mem y st (u .1) 
 pub under-more : (a b : ℕ) (st : List ℕ) → a ≤ b → Under a st → Under b st
 under-more a b [] l u = tt
 under-more a b (x ∷ st) l u = (let t = u .0 in omega arith, u .1)
-
--- on the stack or in the buffer
-abbrev pub Play : ℕ → List ℕ → ℕ → ℕ → Type 0
-Play n st b x = List·Memᴰ x st ⊎ ((b ≤ x) × (x ≤ n))
 
 -- where a node in play stands, seen from the two nodes at the top
 pub data Place (n : ℕ) (s : List ℕ) (i j b : ℕ) : ℕ → Type 0 where

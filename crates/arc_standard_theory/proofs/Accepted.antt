@@ -23,8 +23,8 @@ use Rattle.transition.specs.declared.faults.Fault.{Fault}
 use Rattle.transition.specs.Meaning.{Verdict}
 use Rattle.arc_store.specs.Drawing.{put, arc-verdict}
 use Rattle.arc_store.proofs.Freshness.{verdict-same, verdict-fresh}
-use Rattle.arc_standard.specs.Configurations.{Configuration, configuration, words, finished, emptied, top-two}
-use Rattle.arc_standard.specs.Moves.{refused, drawn, between, left-arc, right-arc, left-next, right-next, verdict, next}
+use Rattle.arc_standard_theory.specs.Configurations.{Configuration, configuration, words, finished, emptied, top-two}
+use Rattle.arc_standard_theory.specs.Moves.{refused, drawn, between, left-arc, right-arc, left-next, right-next, verdict, next}
 
 -- a permitted move, the arc that it draws, and the configuration that it leads to
 pub data Makes : Configuration → Move → Option Arc → Configuration → Type 0 where

@@ -23,11 +23,11 @@ use Rattle.transition.specs.Runs.{Arises}
 use Rattle.arc_store.specs.Drawing.{arc-verdict, put}
 use Rattle.arc_store.proofs.Freshness.{fresh-verdict}
 use Rattle.arc_store.proofs.Putting.{put-length, put-fresh}
-use Rattle.arc_standard.specs.Configurations.{Configuration, configuration, words, start, root-alone, finished, emptied, top-two}
-use Rattle.arc_standard.specs.Moves.{drawn, between, left-arc, right-arc, verdict, next, arc-standard}
-use Rattle.arc_standard.specs.Nivre.{Triple, triple, Transition, shown, As-defined}
-use Rattle.arc_standard.proofs.Accepted.{Makes, makes, impossible}
-use Rattle.arc_standard.proofs.Kept.{Kept, kept, In, none-above}
+use Rattle.arc_standard_theory.specs.Configurations.{Configuration, configuration, words, start, root-alone, finished, emptied, top-two}
+use Rattle.arc_standard_theory.specs.Moves.{drawn, between, left-arc, right-arc, verdict, next, arc-standard}
+use Rattle.arc_standard_theory.specs.Nivre.{Triple, triple, Transition, shown, As-defined}
+use Rattle.arc_standard_theory.proofs.Accepted.{Makes, makes, impossible}
+use Rattle.arc_standard_theory.proofs.Kept.{Kept, kept, In, none-above}
 
 counting-next : (b k : ℕ) → 1 ≤ k → counting b k ≡ b ∷ counting (b + 1) (k - 1)
 counting-next b zero l = absurd (omega arith)
@@ -49,7 +49,7 @@ accepted (Makes.right {b = b} {j = j} {i = i} {l = l} {s = s} {w = w} f) small =
     subst (λ (n : ℕ). Transition (triple (j ∷ (i ∷ s)) (counting b (length w + 1 - b)) (table-arcs w)) (RightArc l) (triple (i ∷ s) (counting b (n + 1 - b)) (table-arcs (put w (arc i l j)))))
     (sym (put-length w (arc i l j))) (Transition.right-arc (put-fresh w (arc i l j) small f))
 
-abbrev Permits : Configuration → Move → Type 0
+abbrev pub Permits : Configuration → Move → Type 0
 Permits c m = (a : Option Arc) × (verdict c m ≡ Ok a)
 
 positive : (x : ℕ) → (x ≡ 0 → ⊥) → 1 ≤ x
@@ -67,24 +67,24 @@ module _ {b j i : ℕ} {s : List ℕ} {w : List Row} (k : Kept (configuration (j
   second-in : In (configuration (j ∷ (i ∷ s)) b w) i
   second-in = inl (List·Memᴰ·tail (List·Memᴰ·head refl))
 
-  left-fresh : (l : ℕ) → (i ≡ 0 → ⊥) → Fresh (length w) (table-arcs w) (arc j l i)
+  pub left-fresh : (l : ℕ) → (i ≡ 0 → ⊥) → Fresh (length w) (table-arcs w) (arc j l i)
   left-fresh l not = let (p, q) = below-top in record {
       joins = record { word = (positive i not, omega arith); head = q };
       headless = k .headless second-in;
       apart = λ e. omega arith;
       not-below = λ u. none-above k u top-in }
 
-  right-fresh : (l : ℕ) → Fresh (length w) (table-arcs w) (arc i l j)
+  pub right-fresh : (l : ℕ) → Fresh (length w) (table-arcs w) (arc i l j)
   right-fresh l = let (p, q) = below-top in record {
       joins = record { word = (omega arith, q); head = omega arith };
       headless = k .headless top-in;
       apart = λ e. omega arith;
       not-below = λ u. none-above k u second-in }
 
-  left-permits : (l : ℕ) → (i ≡ 0 → ⊥) → Permits (configuration (j ∷ (i ∷ s)) b w) (LeftArc l)
+  pub left-permits : (l : ℕ) → (i ≡ 0 → ⊥) → Permits (configuration (j ∷ (i ∷ s)) b w) (LeftArc l)
   left-permits l not = (Some (arc j l i), ap drawn (fresh-verdict w (arc j l i) (left-fresh l not)))
 
-  right-permits : (l : ℕ) → Permits (configuration (j ∷ (i ∷ s)) b w) (RightArc l)
+  pub right-permits : (l : ℕ) → Permits (configuration (j ∷ (i ∷ s)) b w) (RightArc l)
   right-permits l = (Some (arc i l j), ap drawn (fresh-verdict w (arc i l j) (right-fresh l)))
 
 not-empty : (i : ℕ) (β : List ℕ) → _≡_ {A = List ℕ} [] (i ∷ β) → ⊥

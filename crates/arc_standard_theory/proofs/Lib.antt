@@ -1,0 +1,11 @@
+pub mod Accepted
+pub mod Descending
+pub mod Kept
+pub mod Lawful
+pub mod Defined
+pub mod Back
+pub mod Onward
+pub mod Served
+pub mod Advised
+pub mod Reached
+pub mod Trees

@@ -1,0 +1,4 @@
+pub mod Followed
+pub mod Viably
+pub mod Compared
+pub mod Turns

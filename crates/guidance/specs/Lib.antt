@@ -1,0 +1,4 @@
+pub mod Guides
+pub mod Following
+pub mod Viability
+pub mod Building
