@@ -50,7 +50,10 @@ fn follow<S: Guided>(heap: Global, system: &mut S, table: &[Row]) -> Result<Vec<
     requires begun { ⌜ S·System .conf (now system) ≡ S·System .start (now system) (length (now table)) ⌝ }
     requires few { ⌜ length (now table) ≤ 100 ⌝ }
     requires good { ⌜ Good-table (length (now table)) (now table) ⌝ }
-    ensures came { λ r. ⌜ Cases r (λ v. Led (S·System .meaning) (S·System .start (now (system .entry))) (S·Guided .reliable) (length (now (table .entry))) (now (table .entry)) (vec-items v) (S·System .conf (now (system .exit))) × (S·System .meaning .finished (S·System .conf (now (system .exit))) ≡ true)) (λ e. Stuck (S·System .meaning) (S·System .start (now (system .entry))) (S·Guided .reliable) (length (now (table .entry))) (now (table .entry)) e) ⌝ }
+    ensures came { λ r. ⌜ Cases r
+        (λ v. Led (S·System .meaning) (S·System .start (now (system .entry))) (S·Guided .reliable) (length (now (table .entry))) (now (table .entry)) (vec-items v) (S·System .conf (now (system .exit)))
+            × (S·System .meaning .finished (S·System .conf (now (system .exit))) ≡ true))
+        (λ e. Stuck (S·System .meaning) (S·System .start (now (system .entry))) (S·Guided .reliable) (length (now (table .entry))) (now (table .entry)) e) ⌝ }
     ensures alike { λ _. ⌜ S·System .start (now (system .exit)) ≡ S·System .start (now (system .entry)) ⌝ }
 {
     let mut moves = Vec::new(heap);
@@ -73,7 +76,9 @@ fn follow_to<S: Guided>(heap: Global, system: &mut S, words: WordCount, table: &
     requires begun { ⌜ S·System .conf (now system) ≡ S·System .start (now system) (length (now table)) ⌝ }
     requires rows { ⌜ words .count ≡ length (now table) ⌝ }
     requires good { ⌜ Good-table (length (now table)) (now table) ⌝ }
-    ensures came { λ r. ⌜ Cases r (λ v. Built (S·System .meaning) (S·System .start (now (system .entry))) (now (table .entry)) (vec-items v) (S·System .conf (now (system .exit)))) (λ e. Stuck (S·System .meaning) (S·System .start (now (system .entry))) (S·Guided .reliable) (length (now (table .entry))) (now (table .entry)) e) ⌝ }
+    ensures came { λ r. ⌜ Cases r
+        (λ v. Built (S·System .meaning) (S·System .start (now (system .entry))) (now (table .entry)) (vec-items v) (S·System .conf (now (system .exit))))
+        (λ e. Stuck (S·System .meaning) (S·System .start (now (system .entry))) (S·Guided .reliable) (length (now (table .entry))) (now (table .entry)) e) ⌝ }
     ensures alike { λ _. ⌜ S·System .start (now (system .exit)) ≡ S·System .start (now (system .entry)) ⌝ }
 {
     match follow(heap, system, table) {
@@ -93,7 +98,9 @@ fn follow_to<S: Guided>(heap: Global, system: &mut S, words: WordCount, table: &
 /// then a table that the advice does not lead to (`Unreachable`): where the advice is reliable, exactly one that cannot be
 /// reached. After that, and where memory is wanting, the system is begun anew.
 pub fn build<S: Guided>(heap: Global, system: &mut S, table: &[Row]) -> Result<Vec<Move>, BuildError>
-    ensures built { λ r. ⌜ Cases r (λ v. Built (S·System .meaning) (S·System .start (now (system .entry))) (now (table .entry)) (vec-items v) (S·System .conf (now (system .exit)))) (λ e. Not-built (S·System .meaning) (S·System .conf) (S·System .start (now (system .entry))) (S·Guided .reliable) (now (table .entry)) (now (system .entry)) e (now (system .exit))) ⌝ }
+    ensures built { λ r. ⌜ Cases r
+        (λ v. Built (S·System .meaning) (S·System .start (now (system .entry))) (now (table .entry)) (vec-items v) (S·System .conf (now (system .exit))))
+        (λ e. Not-built (S·System .meaning) (S·System .conf) (S·System .start (now (system .entry))) (S·Guided .reliable) (now (table .entry)) (now (system .entry)) e (now (system .exit))) ⌝ }
     ensures alike { λ _. ⌜ S·System .start (now (system .exit)) ≡ S·System .start (now (system .entry)) ⌝ }
     ensures exact { λ _. ⌜ (S·Guided .reliable → Led-exactly (S·System .meaning) (S·System .start (now (system .entry)))) ⌝ }
 {

@@ -35,7 +35,8 @@ loop-system-again g c =
     let w = c .args .table .now in
     let (p, v, i) = c .in-rest-make-move .ensures tt .made in
     let led = led-further (g .S·System .meaning) (g .S·System .start s) (g .S·Guided .reliable) (g .S·System·met .laws s) (λ r. g .S·Guided·met .guides r s) (length w) (c .pre .few) w (c .pre .good)
-      (vec-items (c .loop-system .moves)) (g .S·System .conf (c .loop-system .system)) (c .loop-system .inv .0) (sym (c .loop-system-test .ensures tt)) (c .in-Some .m) (c .in-rest-make-move .field-0) (g .S·System .conf (c .make-move .last .system)) (c .in-Some .ensures tt .value) p v i in
+      (vec-items (c .loop-system .moves)) (g .S·System .conf (c .loop-system .system)) (c .loop-system .inv .0) (sym (c .loop-system-test .ensures tt))
+      (c .in-Some .m) (c .in-rest-make-move .field-0) (g .S·System .conf (c .make-move .last .system)) (c .in-Some .ensures tt .value) p v i in
     (subst (λ (ms : List Move). Led (g .S·System .meaning) (g .S·System .start s) (g .S·Guided .reliable) (length w) w ms (g .S·System .conf (c .make-move .last .system))) (sym (c .in-rest-push .ensures tt .items)) led,
      c .make-move .ensures .alike ∙ c .loop-system .inv .1)
 
