@@ -15,13 +15,15 @@ use Rattle.treebank.specs.declared.rows.Row.{Row}
 use Rattle.treebank.specs.declared.refusals.Refusal.{Refusal}
 use Rattle.treebank.specs.Tables.{arc}
 use Rattle.transition.specs.Meaning.{fault}
+use Rattle.transition.specs.Verdicts.{drawn}
 use Rattle.arc_store.specs.Drawing.{rows-of, put, arc-verdict}
 use Rattle.arc_store.proofs.Rowed.{rows-length}
 use Rattle.arc_standard.specs.declared.system.ArcStandard.{ArcStandard}
 use Rattle.arc_standard_theory.specs.Configurations.{Configuration, configuration, words, finished, emptied, top-two}
-use Rattle.arc_standard_theory.specs.Moves.{between, drawn, left-arc, right-arc, left-next, right-next, unless-finished, verdict, next}
+use Rattle.arc_standard_theory.specs.Moves.{between, left-arc, right-arc, left-next, right-next, unless-finished, verdict, next}
 use Rattle.arc_standard.specs.Held.{stack-of, held, Stepped}
-use Rattle.arc_standard.proofs.Stacked.{pushed, topped-twice, second-left, top-left, in-room}
+use Rattle.treebank.proofs.Stacks.{pushed, topped-twice, second-left, top-left}
+use Rattle.arc_standard.proofs.Stacked.{in-room}
 use Rattle.arc_standard.proofs.Same.{same-configuration}
 
 -- the arc store decides about an arc between the two nodes at the top

@@ -22,9 +22,9 @@ use Rattle.treebank.specs.Trees.{Fresh}
 use Rattle.transition.specs.declared.faults.Fault.{Fault}
 use Rattle.transition.specs.Meaning.{Verdict}
 use Rattle.arc_store.specs.Drawing.{put, arc-verdict}
-use Rattle.arc_store.proofs.Freshness.{verdict-same, verdict-fresh}
+use Rattle.arc_store.proofs.Verdicts.{impossible, passed, stored}
 use Rattle.arc_standard_theory.specs.Configurations.{Configuration, configuration, words, finished, emptied, top-two}
-use Rattle.arc_standard_theory.specs.Moves.{refused, drawn, between, left-arc, right-arc, left-next, right-next, verdict, next}
+use Rattle.arc_standard_theory.specs.Moves.{between, left-arc, right-arc, left-next, right-next, verdict, next}
 
 -- a permitted move, the arc that it draws, and the configuration that it leads to
 pub data Makes : Configuration → Move → Option Arc → Configuration → Type 0 where
@@ -33,25 +33,6 @@ pub data Makes : Configuration → Move → Option Arc → Configuration → Typ
     Makes (configuration (j ∷ (i ∷ s)) b w) (LeftArc l) (Some (arc j l i)) (configuration (j ∷ s) b (put w (arc j l i)))
   right : {b j i l : ℕ} {s : List ℕ} {w : List Row} → Fresh (length w) (table-arcs w) (arc i l j) →
     Makes (configuration (j ∷ (i ∷ s)) b w) (RightArc l) (Some (arc i l j)) (configuration (i ∷ s) b (put w (arc i l j)))
-
-pub impossible : {A : Type 0} {f : Fault} {a : Option Arc} → _≡_ {A = Verdict} (Err f) (Ok a) → A
-impossible e = absurd (let z : _≡_ {A = ℕ} 0 1 = cc in omega arith)
-
--- a test that refuses was passed
-pub passed : (why : Refusal) (b : Bool) (v : Verdict) {a : Option Arc} → cond b (refused why) v ≡ Ok a → (b ≡ false) × (v ≡ Ok a)
-passed why true v e = impossible e
-passed why false v e = (refl, e)
-
--- what the arc store permits is the arc that it was asked for
-stored : (w : List Row) (x : Arc) (a : Option Arc) → drawn (arc-verdict w x) ≡ Ok a → (a ≡ Some x) × Fresh (length w) (table-arcs w) x
-stored w x a e = at (arc-verdict w x) refl e
-  where
-    at : (r : Result Arc Refusal) → arc-verdict w x ≡ r → drawn r ≡ Ok a → (a ≡ Some x) × Fresh (length w) (table-arcs w) x
-    at (Ok y) v e =
-        let same = verdict-same w x y v in
-        let i : Some y ≡ a = cc in
-        (sym i ∙ ap (λ (z : Arc). Some z) same, verdict-fresh w x (v ∙ ap (λ (z : Arc). Ok z) same))
-    at (Err why) v e = impossible e
 
 left-makes : (b l : ℕ) (st : List ℕ) (w : List Row) (a : Option Arc) → between w (left-arc l) (top-two st) ≡ Ok a → Makes (configuration st b w) (LeftArc l) a (left-next (configuration st b w) l st)
 left-makes b l [] w a e = impossible e

@@ -19,14 +19,16 @@ use Rattle.treebank.specs.declared.rows.Row.{Row}
 use Rattle.treebank.specs.Tables.{arc, table-arcs}
 use Rattle.treebank.specs.Trees.{Fresh}
 use Rattle.transition.specs.Meaning.{Verdict}
+use Rattle.transition.specs.Verdicts.{drawn}
 use Rattle.transition.specs.Runs.{Arises}
 use Rattle.arc_store.specs.Drawing.{arc-verdict, put}
 use Rattle.arc_store.proofs.Freshness.{fresh-verdict}
 use Rattle.arc_store.proofs.Putting.{put-length, put-fresh}
 use Rattle.arc_standard_theory.specs.Configurations.{Configuration, configuration, words, start, root-alone, finished, emptied, top-two}
-use Rattle.arc_standard_theory.specs.Moves.{drawn, between, left-arc, right-arc, verdict, next, arc-standard}
+use Rattle.arc_standard_theory.specs.Moves.{between, left-arc, right-arc, verdict, next, arc-standard}
 use Rattle.arc_standard_theory.specs.Nivre.{Triple, triple, Transition, shown, As-defined}
-use Rattle.arc_standard_theory.proofs.Accepted.{Makes, makes, impossible}
+use Rattle.arc_standard_theory.proofs.Accepted.{Makes, makes}
+use Rattle.arc_store.proofs.Verdicts.{impossible}
 use Rattle.arc_standard_theory.proofs.Kept.{Kept, kept, In, none-above}
 
 counting-next : (b k : ℕ) → 1 ≤ k → counting b k ≡ b ∷ counting (b + 1) (k - 1)

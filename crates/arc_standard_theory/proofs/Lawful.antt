@@ -30,8 +30,9 @@ use Rattle.transition.specs.Laws.{Begins, Arc-into, Draws, Foreign, Laws}
 use Rattle.arc_store.specs.Drawing.{bare, put, outside, circles, arc-verdict}
 use Rattle.arc_store.proofs.Putting.{put-length, put-fresh, none-drawn}
 use Rattle.arc_standard_theory.specs.Configurations.{Configuration, configuration, words, start, finished, emptied, top-two, remaining}
-use Rattle.arc_standard_theory.specs.Moves.{own, refused, drawn, between, left-arc, right-arc, verdict, next, arc-standard}
-use Rattle.arc_standard_theory.proofs.Accepted.{Makes, makes, impossible, passed}
+use Rattle.arc_standard_theory.specs.Moves.{own, between, left-arc, right-arc, verdict, next, arc-standard}
+use Rattle.arc_store.proofs.Verdicts.{impossible, passed, told-arc, Usual, usual-refusal, usual-test, usual-arc, not-foreign, usual-level, foreign-level}
+use Rattle.arc_standard_theory.proofs.Accepted.{Makes, makes}
 use Rattle.arc_standard_theory.proofs.Kept.{Kept, kept}
 
 begins : (n : ℕ) → n ≤ 100 → Begins arc-standard n (start n)
@@ -40,11 +41,6 @@ begins n h = record {
     bare = none-drawn 1 n;
     full = omega (arith, length-replicate n bare);
     limit = omega arith }
-
--- what is told of the arc into a word
-pub told-arc : (w : List Row) (d : ℕ) (o : Option Arc) → arc-into w d ≡ o → Arc-into (length w) (table-arcs w) d o
-told-arc w d None e = λ a m f. let z : None ≡ Some a = sym e ∙ ap (arc-into w) (sym f) ∙ mem-into w m in let y : _≡_ {A = ℕ} 0 1 = cc in omega arith
-told-arc w d (Some a) e = let (lo, hi, same) = into-word w d a e in (into-mem w d a e, same, lo, hi)
 
 draws : {c d : Configuration} {m : Move} {a : Option Arc} → Makes c m a d → d ≡ next c m → words c ≤ 100 → Draws arc-standard c m a
 draws (Makes.shift h) e small = (refl, λ x. (λ m. m, λ m. m))
@@ -56,49 +52,16 @@ falls (Makes.shift h) = (refl, omega arith)
 falls (Makes.left {j = j} {i = i} {l = l} {w = w} f) = let same = put-length w (arc j l i) in (same, omega arith)
 falls (Makes.right {j = j} {i = i} {l = l} {w = w} f) = let same = put-length w (arc i l j) in (same, omega arith)
 
--- a refusal of one of the system's own moves: of level 0, and not as foreign
-Usual : Verdict → Type 0
-Usual (Ok a) = Unit {0}
-Usual (Err f) = (f .level ≡ 0) × (f .refusal ≡ ForeignMove → ⊥)
-
-differ : (x y : Refusal) → (number x ≡ number y → ⊥) → x ≡ y → ⊥
-differ x y n e = n (ap number e)
-
-usual-test : (why : Refusal) (b : Bool) (v : Verdict) → (number why ≡ 3 → ⊥) → Usual v → Usual (cond b (refused why) v)
-unfolding Usual
-usual-test why true v n u = (refl, differ why ForeignMove n)
-usual-test why false v n u = u
-
-usual-stored : (why : Refusal) (b : Bool) (r : Result Arc Refusal) → (number why ≡ 3 → ⊥) → Usual (drawn r) → Usual (drawn (cond b (Err why) r))
-unfolding Usual
-usual-stored why true r n u = (refl, differ why ForeignMove n)
-usual-stored why false r n u = u
-
-usual-arc : (w : List Row) (a : Arc) → Usual (drawn (arc-verdict w a))
-unfolding Usual
-usual-arc w a =
-    usual-stored TooFewNodes (outside w a) _ (λ e. omega arith)
-    (usual-stored IntoRoot (eqb (a .word) 0) _ (λ e. omega arith)
-    (usual-stored HasHead (isSome (arc-into w (a .word))) _ (λ e. omega arith)
-    (usual-stored WouldCircle (circles w a) _ (λ e. omega arith) tt)))
-
 usual-between : (w : List Row) (draw : ℕ → ℕ → Arc) (o : Option (ℕ × ℕ)) → Usual (between w draw o)
-unfolding Usual
-usual-between w draw None = (refl, differ TooFewNodes ForeignMove (λ e. omega arith))
+usual-between w draw None = usual-refusal TooFewNodes (λ e. omega arith)
 usual-between w draw (Some (i, j)) = usual-arc w (draw i j)
 
 usual : (c : Configuration) (m : Move) → own m ≡ true → Usual (verdict c m)
-unfolding Usual
 usual c Shift o = usual-test Finished (finished c) _ (λ e. omega arith) (usual-test TooFewNodes (emptied c) _ (λ e. omega arith) tt)
 usual c (LeftArc l) o = usual-test Finished (finished c) _ (λ e. omega arith) (usual-between (c .rows) (left-arc l) (top-two (c .stack)))
 usual c (RightArc l) o = usual-test Finished (finished c) _ (λ e. omega arith) (usual-between (c .rows) (right-arc l) (top-two (c .stack)))
 usual c Reduce o = absurd (true≢false (sym o))
 usual c NoArc o = absurd (true≢false (sym o))
-
-not-foreign : (v : Verdict) → Usual v → Foreign v → ⊥
-unfolding Usual
-not-foreign (Ok a) u f = f
-not-foreign (Err f) u e = u .1 e
 
 foreign : (c : Configuration) (m : Move) → Foreign (verdict c m) ↔ (own m ≡ false)
 foreign c Shift = (λ f. absurd (not-foreign _ (usual c Shift refl) f), λ e. absurd (true≢false e))
@@ -107,18 +70,10 @@ foreign c (RightArc l) = (λ f. absurd (not-foreign _ (usual c (RightArc l) refl
 foreign c Reduce = (λ f. refl, λ e. refl)
 foreign c NoArc = (λ f. refl, λ e. refl)
 
-level-zero : (v : Verdict) (f : Fault) → Usual v → v ≡ Err f → f .level ≤ 0
-unfolding Usual
-level-zero (Ok a) f u e = absurd (let z : _≡_ {A = ℕ} 0 1 = cc in omega arith)
-level-zero (Err g) f u e = let same : g ≡ f = cc in let l = u .0 in omega (arith, ap (λ (x : Fault). x .level) same)
-
-foreign-level : (f : Fault) → _≡_ {A = Verdict} (refused ForeignMove) (Err f) → f .level ≤ 0
-foreign-level f e = let same : fault ForeignMove 0 ≡ f = cc in omega (arith, ap (λ (x : Fault). x .level) same)
-
 levels : (c : Configuration) (m : Move) (f : Fault) → verdict c m ≡ Err f → f .level ≤ 0
-levels c Shift f e = level-zero _ f (usual c Shift refl) e
-levels c (LeftArc l) f e = level-zero _ f (usual c (LeftArc l) refl) e
-levels c (RightArc l) f e = level-zero _ f (usual c (RightArc l) refl) e
+levels c Shift f e = usual-level _ f (usual c Shift refl) e
+levels c (LeftArc l) f e = usual-level _ f (usual c (LeftArc l) refl) e
+levels c (RightArc l) f e = usual-level _ f (usual c (RightArc l) refl) e
 levels c Reduce f e = foreign-level f e
 levels c NoArc f e = foreign-level f e
 

@@ -4,16 +4,15 @@ use mathlib.Core.Bool.{Bool, true, false, cond}
 use Prim.Native.Nat.{ℕ, _+_, _*_}
 use Rattle.std.specs.declared.option.Option.{Option}
 use Rattle.std.specs.declared.option.Option.the-variants.{Some, None}
-use Rattle.std.specs.declared.result.Result.{Result}
-use Rattle.std.specs.declared.result.Result.the-variants.{Ok, Err}
+use Rattle.std.specs.declared.result.Result.the-variants.{Ok}
 use Rattle.treebank.specs.declared.arcs.Arc.{Arc}
 use Rattle.treebank.specs.declared.moves.Move.{Move}
 use Rattle.treebank.specs.declared.moves.Move.the-variants.{Shift, LeftArc, RightArc, Reduce, NoArc}
 use Rattle.treebank.specs.declared.rows.Row.{Row}
-use Rattle.treebank.specs.declared.refusals.Refusal.{Refusal}
 use Rattle.treebank.specs.declared.refusals.Refusal.the-variants.{ForeignMove, Finished, TooFewNodes}
 use Rattle.treebank.specs.Tables.{arc, arc-into, table-arcs}
-use Rattle.transition.specs.Meaning.{Meaning, Verdict, fault}
+use Rattle.transition.specs.Meaning.{Meaning, Verdict}
+use Rattle.transition.specs.Verdicts.{refused, drawn}
 use Rattle.arc_store.specs.Drawing.{put, arc-verdict}
 use Rattle.arc_standard_theory.specs.Configurations.{Configuration, configuration, words, emptied, finished, top-two, remaining}
 use Rattle.arc_standard_theory.specs.Advice.{advice}
@@ -24,14 +23,6 @@ own (LeftArc l) = true
 own (RightArc l) = true
 own Reduce = false
 own NoArc = false
-
-abbrev pub refused : Refusal → Verdict
-refused why = Err (fault why 0)
-
--- what the arc store says, as a verdict of the system
-abbrev pub drawn : Result Arc Refusal → Verdict
-drawn (Ok a) = Ok (Some a)
-drawn (Err why) = refused why
 
 -- an arc between the two nodes at the top of the stack
 abbrev pub between : List Row → (ℕ → ℕ → Arc) → Option (ℕ × ℕ) → Verdict

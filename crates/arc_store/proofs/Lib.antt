@@ -1,3 +1,4 @@
 pub mod Rowed
 pub mod Freshness
 pub mod Putting
+pub mod Verdicts

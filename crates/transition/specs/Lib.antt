@@ -3,3 +3,4 @@ pub mod Runs
 pub mod Laws
 pub mod Theory
 pub mod Making
+pub mod Verdicts

@@ -1,5 +1,6 @@
 use native.Mathlib.Omega.{arith}
-use Rattle.arc_standard.proofs.Stacked.{topped-twice, shallow-two, in-room}
+use Rattle.treebank.proofs.Stacks.{topped-twice}
+use Rattle.arc_standard.proofs.Stacked.{in-room}
 use Rattle.arc_standard.proofs.system.ArcStandard.top_two.Needs as need
 
 pub returns : need.returns
