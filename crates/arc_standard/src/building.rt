@@ -1,10 +1,11 @@
 ghost use Rattle.std.specs.Of.Vec.{vec-items};
 ghost use Rattle.std.specs.Results.{Cases};
+ghost use Rattle.guidance.specs.Classes.{Makes, Makes-not};
 ghost use Rattle.guidance.specs.Viability.{Viable-exactly};
 ghost use Rattle.arc_standard_theory.specs.Configurations.{start};
 ghost use Rattle.arc_standard_theory.specs.Moves.{arc-standard};
 ghost use Rattle.arc_standard_theory.specs.Viable.{Viable};
-ghost use Rattle.arc_standard_theory.specs.Classes.{Reaches-projective-trees, Makes-tree, No-tree};
+ghost use Rattle.arc_standard_theory.specs.Classes.{Projective-tree, Reaches-projective-trees};
 
 use crate::system::ArcStandard;
 use crate::system::guide::ArcStandardGuided;
@@ -23,7 +24,7 @@ use treebank::words::WordCount;
 /// With it stands why: what can be reached is what is viable and what the advice makes, and from the start these are the
 /// projective trees.
 pub fn build_tree(heap: Global, table: &[Row]) -> Result<Vec<Move>, BuildError>
-    ensures tree { λ r. ⌜ Cases r (λ v. Makes-tree (now (table .entry)) (vec-items v)) (λ e. No-tree (now (table .entry)) e) ⌝ }
+    ensures tree { λ r. ⌜ Cases r (λ v. Makes arc-standard start Projective-tree (now (table .entry)) (vec-items v)) (λ e. Makes-not Projective-tree (now (table .entry)) e) ⌝ }
     ensures class { λ _. ⌜ Reaches-projective-trees ⌝ }
     ensures exact { λ _. ⌜ Viable-exactly arc-standard start Viable ⌝ }
 {

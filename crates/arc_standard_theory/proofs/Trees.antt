@@ -8,22 +8,16 @@ use lib.ListN.{length, length-replicate}
 use Rattle.std.proofs.shelf.Tests.{cases-lt}
 use Rattle.treebank.specs.declared.arcs.Arc.{Arc}
 use Rattle.treebank.specs.declared.rows.Row.{Row}
-use Rattle.treebank.specs.declared.moves.Move.{Move}
-use Rattle.treebank.specs.declared.refusals.Refusal.{Refusal}
-use Rattle.treebank.specs.declared.refusals.Refusal.the-variants.{TooManyWords, BadRow}
 use Rattle.treebank.specs.Tables.{arc, Headless, Good-table, row-at, table-arcs}
 use Rattle.treebank.specs.Trees.{_∈_, Heads, Above, Between, Tree, Projective}
 use Rattle.treebank.proofs.Goodness.{table-fits, row-heads, heads-row}
 use Rattle.transition.proofs.Running.{arises-start}
 use Rattle.arc_store.specs.Drawing.{bare}
 use Rattle.arc_store.proofs.Putting.{none-drawn}
-use Rattle.guidance.specs.declared.errors.BuildError.{BuildError}
-use Rattle.guidance.specs.declared.errors.BuildError.the-variants.{Refused, NoMemory}
-use Rattle.guidance.specs.Building.{Built, Not-built}
 use Rattle.guidance.proofs.Viably.{viable-reaches}
-use Rattle.arc_standard_theory.specs.Configurations.{Configuration, start, words}
+use Rattle.arc_standard_theory.specs.Configurations.{start, words}
 use Rattle.arc_standard_theory.specs.Moves.{arc-standard}
-use Rattle.arc_standard_theory.specs.Classes.{Projective-tree, Reaches-projective-trees, Makes-tree, No-tree}
+use Rattle.arc_standard_theory.specs.Classes.{Projective-tree, Reaches-projective-trees}
 
 use Rattle.arc_standard_theory.proofs.Lawful.{lawful}
 use Rattle.arc_standard_theory.specs.Viable.{Play, Total, Rest, Viable}
@@ -76,23 +70,3 @@ pub reaches-projective-trees : Reaches-projective-trees
 reaches-projective-trees n w small good =
     let (to, from) = viable-reaches lawful viability w (arises-start small) (subst (λ (k : ℕ). Good-table k w) (sym (length-replicate n bare)) good) in
     (λ r. viable-start n w small good (to r), λ t. from (start-viable n w small good t))
-
-refusal-of : (x y : Refusal) → Refused x ≡ Refused y → x ≡ y
-refusal-of x y e = cc
-
--- what building a table on arc-standard says of the table
-pub built-tree : (w : List Row) (ms : List Move) (d : Configuration) → Built arc-standard start w ms d → Makes-tree w ms
-built-tree w ms d b =
-    let (small, good) = b .good in
-    record {
-      good = b .good;
-      tree = reaches-projective-trees (length w) w small good .0 (ms, d, b .run, b .finished, b .same);
-      run = (d, b .run, b .finished, b .same) }
-
-pub no-tree : {S : Type 0} (conf : S → Configuration) (w : List Row) (s : S) (e : BuildError) (t : S) → Not-built arc-standard conf start (Unit {0}) w s e t → No-tree w e
-no-tree conf w s (Refused why) t (inl (many, f, same)) = inl (many, refusal-of why TooManyWords f)
-no-tree conf w s (Refused why) t (inr (inl (few, bad, f, same))) = inr (inl (few, bad, refusal-of why BadRow f))
-no-tree conf w s (Refused why) t (inr (inr (few, good, (f, stuck), same))) = inr (inr (few, good, (λ tree. stuck tt (reaches-projective-trees (length w) w few good .1 tree)), f))
-no-tree conf w s NoMemory t (inl (many, f, same)) = absurd (let z : _≡_ {A = ℕ} 0 1 = cc in omega arith)
-no-tree conf w s NoMemory t (inr (inl (few, bad, f, same))) = absurd (let z : _≡_ {A = ℕ} 0 1 = cc in omega arith)
-no-tree conf w s NoMemory t (inr (inr (few, good, stuck, same))) = (few, good)

@@ -47,3 +47,17 @@ module _ {W : List Arc} where
 
     pub no-self : {x : ℕ} {A : Type 0} → Heads W x x → A
     no-self {x} h = absurd (acyclic x (above-one h))
+
+  -- the same, arc by arc
+  pub no-way-back : {a : Arc} → Acyclic W → a ∈ W → Above W (a .word) (a .head) → ⊥
+  no-way-back {a = a} acyclic m p = acyclic (a .word) (Above.more p m)
+
+  pub no-loop : {a : Arc} → Acyclic W → a ∈ W → a .head ≡ a .word → ⊥
+  no-loop {a = a} acyclic m e = acyclic (a .head) (subst (Above W (a .head)) (sym e) (Above.one m))
+
+  pub no-pair : {a b : Arc} → Acyclic W → a ∈ W → b ∈ W → b .head ≡ a .word → b .word ≡ a .head → ⊥
+  no-pair {a = a} {b = b} acyclic m n e f = no-way-back {a = a} acyclic m (subst (λ (x : ℕ). Above W x (a .head)) e (subst (Above W (b .head)) f (Above.one n)))
+
+  pub peel-arc : {x y : ℕ} → Single-headed W → Above W x y → (a : Arc) → a ∈ W → a .word ≡ y → (x ≡ a .head) ⊎ Above W x (a .head)
+  peel-arc single (Above.one {a = b} m) a n e = inl (ap (λ (c : Arc). c .head) (single b a m n (sym e)))
+  peel-arc single (Above.more {x = x} {a = b} p m) a n e = inr (subst (λ (c : Arc). Above W x (c .head)) (single b a m n (sym e)) p)

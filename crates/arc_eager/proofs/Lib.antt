@@ -1,0 +1,4 @@
+pub mod Stacked
+pub mod Same
+pub mod Steps
+pub mod Answered
