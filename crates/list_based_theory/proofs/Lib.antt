@@ -1,0 +1,9 @@
+pub mod Accepted
+pub mod Kept
+pub mod Lawful
+pub mod Defined
+pub mod Joined
+pub mod Onward
+pub mod Advised
+pub mod Reached
+pub mod Forests
