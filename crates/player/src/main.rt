@@ -1,5 +1,6 @@
-//! Plays an arc-standard run sheet from standard input and prints an account of it.
+//! Plays a run sheet from standard input and prints an account of it.
 
+mod columns;
 mod telling;
 
 use std::io;

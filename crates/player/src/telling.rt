@@ -1,7 +1,14 @@
+use crate::columns::ArcEagerTold;
+use crate::columns::ArcStandardTold;
+use crate::columns::ListBasedTold;
+use crate::columns::Told;
+use arc_eager::system::ArcEager;
+use arc_eager::system::moves::ArcEagerSystem;
 use arc_standard::system::ArcStandard;
 use arc_standard::system::moves::ArcStandardSystem;
+use list_based::system::ListBased;
+use list_based::system::moves::ListBasedSystem;
 use run_sheet::lines::SheetLine;
-use run_sheet::lines::read_heading;
 use run_sheet::playing::play_line;
 use std::alloc::AllocError;
 use std::alloc::Global;
@@ -12,30 +19,35 @@ use treebank::moves::Move;
 use treebank::moves::MoveDisplay;
 use treebank::refusals::Refusal;
 use treebank::refusals::RefusalDisplay;
-use treebank::rows::Row;
-use treebank::words::WordCount;
 
-/// The account of an arc-standard run sheet: every step with its move, stack, buffer and new arc, then the head table,
-/// whether the sentence is finished, and the number of moves. It ends at the first line that is refused.
+/// The account of a run sheet, on the system that its first line names: every step with its move, its new arc and the
+/// configuration, then the head table, whether the sentence is finished, and the number of moves. It ends at the first
+/// line that is refused.
 pub(crate) fn account(heap: Global, sheet: &[u8]) -> Result<String, AllocError> {
-    match read_heading(sheet, 1) {
-        Ok(words) => tell(heap, words, sheet),
-        Err(why) => refusal(heap, 1, why),
+    let Some(line) = SheetLine::read(sheet) else {
+        return refusal(heap, 1, Refusal::NotASheetLine);
+    };
+    let words = match line.words_for(line.first) {
+        Ok(words) => words,
+        Err(why) => return refusal(heap, 1, why),
+    };
+    match line.first {
+        1 => tell(heap, &mut ArcStandard::new(words), sheet),
+        2 => tell(heap, &mut ArcEager::new(words), sheet),
+        3 => tell(heap, &mut ListBased::new(words), sheet),
+        _ => refusal(heap, 1, Refusal::OtherSentence),
     }
 }
 
 /// Plays the lines behind the first on a new sentence and tells of each.
-fn tell(heap: Global, words: WordCount, sheet: &[u8]) -> Result<String, AllocError> {
-    let mut system = ArcStandard::new(words);
-    let mut out = opening(heap, words)?;
-    out.push_str(step(heap, 0, "begin", &system, None)?.as_str())?;
+fn tell<S: Told>(heap: Global, system: &mut S, sheet: &[u8]) -> Result<String, AllocError> {
+    let mut out = opening(heap, system)?;
     let mut made = 0;
     for (i, text) in sheet.chunks(SheetLine::BYTES).enumerate().skip(1) {
-        match play_line(&mut system, text) {
+        match play_line(system, text) {
             Ok((m, arc)) => {
                 made = i;
-                let name = format!(heap, "{m}")?;
-                out.push_str(step(heap, made, name.as_str(), &system, arc)?.as_str())?;
+                out.push_str(step(heap, made, m, arc, system)?.as_str())?;
             }
             Err(fault) => {
                 out.push_str(refusal(heap, i + 1, fault.refusal)?.as_str())?;
@@ -43,64 +55,29 @@ fn tell(heap: Global, words: WordCount, sheet: &[u8]) -> Result<String, AllocErr
             }
         }
     }
-    out.push_str(head_table(heap, system.rows())?.as_str())?;
+    out.push_str(head_table(heap, system)?.as_str())?;
     out.push_str(closing(heap, system.finished(), made)?.as_str())?;
     Ok(out)
 }
 
-fn opening(heap: Global, words: WordCount) -> Result<String, AllocError> {
-    let count = words.get();
-    format!(heap, "arc-standard, words: {count}\n\n{:>4}  {:<13}  {:<24}  {:<24}  {}\n", "step", "move", "stack", "buffer", "new arc")
+/// The system, the word count, the names of the columns and the configuration at the beginning.
+fn opening<S: Told>(heap: Global, system: &S) -> Result<String, AllocError> {
+    let name = system.name();
+    let words = system.words().get();
+    let headings = system.headings(heap)?;
+    let columns = system.columns(heap)?;
+    format!(heap, "{name}, words: {words}\n\nstep  {:<13}  {:<21}  {headings}\n   0  {:<13}  {:<21}  {columns}\n", "move", "new arc", "begin", "")
 }
 
-/// One line of the account: what the move left.
-fn step(heap: Global, number: usize, name: &str, system: &ArcStandard, arc: Option<Arc>) -> Result<String, AllocError> {
-    let stack = shown_stack(heap, system.stack())?;
-    let buffer = shown_buffer(heap, system.front(), system.words().get())?;
-    match arc {
-        Some(arc) => format!(heap, "{number:>4}  {name:<13}  {stack:<24}  {buffer:<24}  {arc}\n"),
-        None => format!(heap, "{number:>4}  {name:<13}  {stack:<24}  {buffer}\n"),
-    }
-}
-
-/// The stack with its top last; of more than eight nodes the lowest and the top six.
-fn shown_stack(heap: Global, stack: &[u8]) -> Result<String, AllocError> {
-    let mut text = String::new(heap);
-    let count = stack.len();
-    for (i, node) in stack.iter().enumerate() {
-        if count <= 8 || i == 0 || count - i <= 6 {
-            push_node(heap, &mut text, *node)?;
-        } else if i == 1 {
-            text.push_str(" ..")?;
-        }
-    }
-    Ok(text)
-}
-
-/// The words of the buffer; of more than eight the first six and the last.
-fn shown_buffer(heap: Global, front: u8, last: u8) -> Result<String, AllocError> {
-    if front > last {
-        return String::from_str(heap, "-");
-    }
-    let mut text = String::new(heap);
-    let few = last - front < 8;
-    for word in front..last {
-        if few || word - front < 6 {
-            push_node(heap, &mut text, word)?;
-        }
-    }
-    if !few {
-        text.push_str(" ..")?;
-    }
-    push_node(heap, &mut text, last)?;
-    Ok(text)
-}
-
-fn push_node(heap: Global, text: &mut String, node: u8) -> Result<(), AllocError> {
-    if !text.is_empty() {
-        text.push_str(" ")?;
-    }
-    text.push_str(node.to_string(heap)?.as_str())
+/// One line of the account: the move, the arc that it drew, and what it left.
+fn step<S: Told>(heap: Global, number: usize, m: Move, arc: Option<Arc>, system: &S) -> Result<String, AllocError> {
+    let name = format!(heap, "{m}")?;
+    let drawn = match arc {
+        Some(arc) => format!(heap, "{arc}")?,
+        None => String::new(heap),
+    };
+    let columns = system.columns(heap)?;
+    format!(heap, "{number:>4}  {name:<13}  {drawn:<21}  {columns}\n")
 }
 
 fn refusal(heap: Global, line: usize, why: Refusal) -> Result<String, AllocError> {
@@ -109,15 +86,13 @@ fn refusal(heap: Global, line: usize, why: Refusal) -> Result<String, AllocError
 }
 
 /// The head and the label of each word, with `-` for no head.
-fn head_table(heap: Global, rows: &[Row]) -> Result<String, AllocError> {
+fn head_table<S: System>(heap: Global, system: &S) -> Result<String, AllocError> {
     let mut out = format!(heap, "\n{:>4}  {:>4}  {:>5}\n", "word", "head", "label")?;
-    for (i, row) in rows.iter().enumerate() {
+    for i in 0..system.words().get() {
         let word = i + 1;
-        let Row { head, label } = *row;
-        let line = if head == Row::NO_HEAD {
-            format!(heap, "{word:>4}  {:>4}  {:>5}\n", "-", "-")?
-        } else {
-            format!(heap, "{word:>4}  {head:>4}  {label:>5}\n")?
+        let line = match system.arc_into(word) {
+            Some(Arc { head, label, .. }) => format!(heap, "{word:>4}  {head:>4}  {label:>5}\n")?,
+            None => format!(heap, "{word:>4}  {:>4}  {:>5}\n", "-", "-")?,
         };
         out.push_str(line.as_str())?;
     }
@@ -134,39 +109,47 @@ mod tests {
     use super::*;
     use std::test::*;
 
-    // A first line that is refused is all that is told.
+    // The first line that is refused is named with its number, on each of the three systems.
     #[test]
-    fn first_lines(rt: LibcRuntime) -> Result<(), Fail> {
-        let heap = rt.alloc();
-        check_eq(account(heap, b"")?.as_str(), "refused 6 at 1: not a sheet line, or no first line\n")?;
-        check_eq(account(heap, b"0103")?.as_str(), "refused 6 at 1: not a sheet line, or no first line\n")?;
-        check_eq(account(heap, b"0165\n")?.as_str(), "refused 1 at 1: more than 100 words\n")?;
-        check_eq(account(heap, b"0203\n")?.as_str(), "refused 7 at 1: the first line is not this system's or this sentence's\n")
+    fn refused_lines(rt: LibcRuntime) -> Result<(), Fail> {
+        let cases = [
+            ("", "refused 6 at 1: not a sheet line, or no first line\n"),
+            ("0103", "refused 6 at 1: "),
+            ("0165\n", "refused 1 at 1: "),
+            ("0403\n", "refused 7 at 1: "),
+            ("0101\n0500\n", "refused 3 at 2: "),
+            ("0101\n0001\n", "refused 2 at 2: "),
+            ("0100\n0000\n", "refused 20 at 2: "),
+            ("0101\n0101\n", "refused 21 at 2: "),
+            ("0101\n0000\n0101\n0201\n", "refused 22 at 3: "),
+            ("0101\n0000\n000g\n", "refused 6 at 3: "),
+            ("0202\n0000\n0300\n", "refused 24 at 3: "),
+            ("0202\n0201\n0101\n", "refused 23 at 3: "),
+            ("0303\n0000\n0201\n0000\n0201\n0400\n0201\n", "refused 23 at 7: "),
+        ];
+        for (sheet, part) in cases {
+            tells(rt, sheet, part)?;
+        }
+        Ok(())
     }
 
-    // The account of a sheet that is refused ends with that line, and its arcs stay as they were.
+    // An account ends with what the accepted moves left.
     #[test]
-    fn refused_moves(rt: LibcRuntime) -> Result<(), Fail> {
-        let heap = rt.alloc();
-        check(tells(account(heap, b"0101\n0500\n")?.as_str(), "refused 3 at 2: "))?;
-        check(tells(account(heap, b"0101\n0001\n")?.as_str(), "refused 2 at 2: "))?;
-        check(tells(account(heap, b"0101\n0300\n")?.as_str(), "refused 3 at 2: "))?;
-        check(tells(account(heap, b"0100\n0000\n")?.as_str(), "refused 20 at 2: "))?;
-        check(tells(account(heap, b"0101\n0101\n")?.as_str(), "refused 21 at 2: "))?;
-        check(tells(account(heap, b"0101\n0000\n0101\n0201\n")?.as_str(), "refused 22 at 3: "))?;
-        check(tells(account(heap, b"0101\n0000\n0101\n0201\n")?.as_str(), "\nnot finished, moves: 1\n"))?;
-        check(tells(account(heap, b"0101\n0000\n000g\n")?.as_str(), "refused 6 at 3: "))
+    fn endings(rt: LibcRuntime) -> Result<(), Fail> {
+        let cases = [
+            ("0102\n0000\n", "\nnot finished, moves: 1\n"),
+            ("0100\n", "\nfinished, moves: 0\n"),
+            ("0101\n0000\n0101\n0201\n", "\nnot finished, moves: 1\n"),
+            ("0203\n0000\n0102\n0201\n0203\n", "\n   3     2      3\n\nfinished, moves: 4\n"),
+            ("0303\n0000\n0102\n0201\n0000\n0203\n0000\n", "\n   3     2      3\n\nfinished, moves: 6\n"),
+        ];
+        for (sheet, part) in cases {
+            tells(rt, sheet, part)?;
+        }
+        Ok(())
     }
 
-    // A sheet that stops early is told to its end.
-    #[test]
-    fn unfinished(rt: LibcRuntime) -> Result<(), Fail> {
-        let heap = rt.alloc();
-        check(tells(account(heap, b"0102\n0000\n")?.as_str(), "\nnot finished, moves: 1\n"))?;
-        check(tells(account(heap, b"0100\n")?.as_str(), "\nfinished, moves: 0\n"))
-    }
-
-    fn tells(text: &str, part: &str) -> bool {
-        text.contains(part)
+    fn tells(rt: LibcRuntime, sheet: &str, part: &str) -> Result<(), Fail> {
+        check(account(rt.alloc(), sheet.as_bytes())?.as_str().contains(part))
     }
 }
