@@ -66,7 +66,8 @@ module _ (s : ArcEager) (open-yet : finished (held s) ≡ false) where
     pub right-refused : (t : ArcEager) (why : Refusal) → arc-verdict (rows-of (s .arcs)) (arc i l (s .done + 1)) ≡ Err why → t ≡ s → Stepped s (RightArc l) (Err (fault why 0)) t
     right-refused t why v e = (cond-false (finished (held s)) _ _ open-yet ∙ ap (λ (x : Arc). drawn (arc-verdict (rows-of (s .arcs)) x)) (sym right-is) ∙ ap drawn v, e)
 
-    pub left-drawn : (k : ℕ) (b : Arc) (w : List Row) → k ≡ s .depth - 1 → b ≡ arc (s .done + 1) l i → arc-verdict (rows-of (s .arcs)) (arc (s .done + 1) l i) ≡ Ok (arc (s .done + 1) l i) → w ≡ put (rows-of (s .arcs)) (arc (s .done + 1) l i) →
+    pub left-drawn : (k : ℕ) (b : Arc) (w : List Row) → k ≡ s .depth - 1 → b ≡ arc (s .done + 1) l i → arc-verdict (rows-of (s .arcs)) (arc (s .done + 1) l i) ≡ Ok (arc (s .done + 1) l i) →
+        w ≡ put (rows-of (s .arcs)) (arc (s .done + 1) l i) →
         (verdict (held s) (LeftArc l) ≡ Ok (Some b)) × (configuration (reverse (take k (s .stack))) (s .done) w ≡ next (held s) (LeftArc l))
     left-drawn k b w below same v e =
         (cond-false (finished (held s)) _ _ open-yet ∙ ap (λ (x : Arc). drawn (arc-verdict (rows-of (s .arcs)) x)) (sym left-is) ∙ ap drawn v ∙ ap (λ (x : Arc). Ok (Some x)) (sym same),

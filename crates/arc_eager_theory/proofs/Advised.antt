@@ -71,12 +71,16 @@ joined-none w d (x ∷ s) t a m j = at j (or-parts (joins w (d + 1) x) (joins-an
     at (inl (e, n)) (p, q) rest = from (List·Memᴰ·cases-cons n)
       where
         from : (a .head ≡ x) ⊎ List·Memᴰ (a .head) s → ⊥
-        from (inl f) = both-ways (isSome (arc-between w x (d + 1))) (or-parts (isSome (arc-between w (d + 1) x)) _ p .1) (heads-found w x (d + 1) (subst (λ (y : ℕ). Heads (table-arcs w) y (d + 1)) f (subst (Heads (table-arcs w) (a .head)) e (heads m))))
+        from (inl f) =
+            both-ways (isSome (arc-between w x (d + 1))) (or-parts (isSome (arc-between w (d + 1) x)) _ p .1)
+            (heads-found w x (d + 1) (subst (λ (y : ℕ). Heads (table-arcs w) y (d + 1)) f (subst (Heads (table-arcs w) (a .head)) e (heads m))))
         from (inr k) = rest q a m (inl (e, k))
     at (inr (e, n)) (p, q) rest = into (List·Memᴰ·cases-cons n)
       where
         into : (a .word ≡ x) ⊎ List·Memᴰ (a .word) s → ⊥
-        into (inl f) = both-ways (isSome (arc-between w (d + 1) x)) (or-parts (isSome (arc-between w (d + 1) x)) _ p .0) (heads-found w (d + 1) x (subst (Heads (table-arcs w) (d + 1)) f (subst (λ (y : ℕ). Heads (table-arcs w) y (a .word)) e (heads m))))
+        into (inl f) =
+            both-ways (isSome (arc-between w (d + 1) x)) (or-parts (isSome (arc-between w (d + 1) x)) _ p .0)
+            (heads-found w (d + 1) x (subst (Heads (table-arcs w) (d + 1)) f (subst (λ (y : ℕ). Heads (table-arcs w) y (a .word)) e (heads m))))
         into (inr k) = rest q a m (inr (e, k))
 
 abbrev pub On : Configuration → List Row → Type 0

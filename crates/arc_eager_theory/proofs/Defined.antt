@@ -61,11 +61,13 @@ module _ (d : ℕ) (rows : List Row) (inner : d < length rows) where
       subst (λ (β : List ℕ). Transition (triple (i ∷ s) β (table-arcs rows)) Shift (triple ((d + 1) ∷ (i ∷ s)) (counting (d + 1 + 1) (length rows - (d + 1))) (table-arcs rows))) (sym shown-buffer)
       (Transition.shift (λ x. (λ n. n, λ n. n)))
   accepted i s m o k (Permitted.left {l = l} f) =
-      subst (λ (n : ℕ). Transition (triple (i ∷ s) (counting (d + 1) (length rows - d)) (table-arcs rows)) (LeftArc l) (triple s (counting (d + 1) (n - d)) (table-arcs (put rows (arc (d + 1) l i))))) (sym (put-length rows (arc (d + 1) l i)))
+      subst (λ (n : ℕ). Transition (triple (i ∷ s) (counting (d + 1) (length rows - d)) (table-arcs rows)) (LeftArc l) (triple s (counting (d + 1) (n - d)) (table-arcs (put rows (arc (d + 1) l i)))))
+      (sym (put-length rows (arc (d + 1) l i)))
       (subst (λ (β : List ℕ). Transition (triple (i ∷ s) β (table-arcs rows)) (LeftArc l) (triple s β (table-arcs (put rows (arc (d + 1) l i))))) (sym shown-buffer)
       (Transition.left-arc (λ e. let t = f .joins .word .0 in omega arith) (λ (a, n, e). f .headless a n e) (put-fresh rows (arc (d + 1) l i) (k .small) f)))
   accepted i s m o k (Permitted.right {l = l} f) =
-      subst (λ (n : ℕ). Transition (triple (i ∷ s) (counting (d + 1) (length rows - d)) (table-arcs rows)) (RightArc l) (triple ((d + 1) ∷ (i ∷ s)) (counting (d + 1 + 1) (n - (d + 1))) (table-arcs (put rows (arc i l (d + 1)))))) (sym (put-length rows (arc i l (d + 1))))
+      subst (λ (n : ℕ). Transition (triple (i ∷ s) (counting (d + 1) (length rows - d)) (table-arcs rows)) (RightArc l) (triple ((d + 1) ∷ (i ∷ s)) (counting (d + 1 + 1) (n - (d + 1))) (table-arcs (put rows (arc i l (d + 1))))))
+      (sym (put-length rows (arc i l (d + 1))))
       (subst (λ (β : List ℕ). Transition (triple (i ∷ s) β (table-arcs rows)) (RightArc l) (triple ((d + 1) ∷ (i ∷ s)) (counting (d + 1 + 1) (length rows - (d + 1))) (table-arcs (put rows (arc i l (d + 1)))))) (sym shown-buffer)
       (Transition.right-arc (put-fresh rows (arc i l (d + 1)) (k .small) f)))
   accepted i s m o k (Permitted.reduce {a = a} n e) =
@@ -126,7 +128,8 @@ allowed c k (Transition.shift {j = j} {β = β} same) e =
     (None, cond-false (finished c) _ _ (ne-eqb (c .done) (words c) (λ z. omega arith)))
 allowed c k (Transition.left-arc {i = i} {j = j} {l = l} {σ = σ} {β = β} {before = before} not free same) e =
     let (inner, f) = front-word c j β (ap (λ (x : Triple). x .B) e) in
-    subst (λ (x : Configuration). Permits x (LeftArc l)) stacked (Some (arc (c .done + 1) l i), left-permits (subst Kept (sym stacked) k) inner l (left-fresh (subst Kept (sym stacked) k) inner l not (subst (λ (as′ : List Arc). Headed as′ i → ⊥) (ap (λ (x : Triple). x .arcs) e) free)))
+    subst (λ (x : Configuration). Permits x (LeftArc l)) stacked (Some (arc (c .done + 1) l i),
+      left-permits (subst Kept (sym stacked) k) inner l (left-fresh (subst Kept (sym stacked) k) inner l not (subst (λ (as′ : List Arc). Headed as′ i → ⊥) (ap (λ (x : Triple). x .arcs) e) free)))
   where
     stacked : configuration (i ∷ σ) (c .done) (c .rows) ≡ c
     stacked = ap (λ (x : List ℕ). configuration x (c .done) (c .rows)) (ap (λ (x : Triple). x .Σ) e)

@@ -15,4 +15,5 @@ returns-in-Break-arc c =
 pub returns : need.returns
 returns c =
     let (same, v, e, kept) = c .in-Continue-arc .ensures tt in
-    left-drawn (c .args .self .now) (c .in-Continue-unfinished .ensures tt) (c .args .label) (c .top-i .result) (c .top-i .ensures) (c .saturating-sub-self .result) (c .in-Continue-arc .arc) (rows-of (c .draw .last .self)) (c .saturating-sub-self .ensures) same v e
+    left-drawn (c .args .self .now) (c .in-Continue-unfinished .ensures tt) (c .args .label) (c .top-i .result) (c .top-i .ensures)
+      (c .saturating-sub-self .result) (c .in-Continue-arc .arc) (rows-of (c .draw .last .self)) (c .saturating-sub-self .ensures) same v e
