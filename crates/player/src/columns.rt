@@ -7,6 +7,7 @@ use list_based::system::moves::ListBasedSystem;
 use std::alloc::AllocError;
 use std::alloc::Global;
 use transition::system::System;
+use treebank::words::WordCount;
 
 /// A system whose configuration an account shows in columns.
 pub(crate) trait Told: System {
@@ -30,9 +31,7 @@ pub(crate) impl Told for ArcStandard as ArcStandardTold {
     }
 
     fn columns(&self, heap: Global) -> Result<String, AllocError> {
-        let stack = shown_stack(heap, self.stack())?;
-        let buffer = shown_span(heap, self.front(), self.words().get() + 1)?;
-        two(heap, stack.as_str(), buffer.as_str())
+        stack_and_buffer(heap, self.stack(), self.front(), self.words())
     }
 }
 
@@ -46,9 +45,7 @@ pub(crate) impl Told for ArcEager as ArcEagerTold {
     }
 
     fn columns(&self, heap: Global) -> Result<String, AllocError> {
-        let stack = shown_stack(heap, self.stack())?;
-        let buffer = shown_span(heap, self.front(), self.words().get() + 1)?;
-        two(heap, stack.as_str(), buffer.as_str())
+        stack_and_buffer(heap, self.stack(), self.front(), self.words())
     }
 }
 
@@ -67,6 +64,12 @@ pub(crate) impl Told for ListBased as ListBasedTold {
         let buffer = shown_span(heap, self.front(), self.words().get() + 1)?;
         three(heap, first.as_str(), second.as_str(), buffer.as_str())
     }
+}
+
+fn stack_and_buffer(heap: Global, stack: &[u8], front: u8, words: WordCount) -> Result<String, AllocError> {
+    let stack = shown_stack(heap, stack)?;
+    let buffer = shown_span(heap, front, words.get() + 1)?;
+    two(heap, stack.as_str(), buffer.as_str())
 }
 
 fn two(heap: Global, a: &str, b: &str) -> Result<String, AllocError> {
