@@ -17,8 +17,8 @@ pub(crate) trait Told: System {
     /// The names of the columns.
     fn headings(&self, heap: Global) -> Result<String, AllocError>;
 
-    /// What the columns show now.
-    fn columns(&self, heap: Global) -> Result<String, AllocError>;
+    /// What the columns show now, with the new arc as the last; no text for none.
+    fn columns(&self, heap: Global, drawn: &str) -> Result<String, AllocError>;
 }
 
 pub(crate) impl Told for ArcStandard as ArcStandardTold {
@@ -27,11 +27,11 @@ pub(crate) impl Told for ArcStandard as ArcStandardTold {
     }
 
     fn headings(&self, heap: Global) -> Result<String, AllocError> {
-        two(heap, "stack", "buffer")
+        two(heap, "stack", "buffer", "new arc")
     }
 
-    fn columns(&self, heap: Global) -> Result<String, AllocError> {
-        stack_and_buffer(heap, self.stack(), self.front(), self.words())
+    fn columns(&self, heap: Global, drawn: &str) -> Result<String, AllocError> {
+        stack_and_buffer(heap, self.stack(), self.front(), self.words(), drawn)
     }
 }
 
@@ -41,11 +41,11 @@ pub(crate) impl Told for ArcEager as ArcEagerTold {
     }
 
     fn headings(&self, heap: Global) -> Result<String, AllocError> {
-        two(heap, "stack", "buffer")
+        two(heap, "stack", "buffer", "new arc")
     }
 
-    fn columns(&self, heap: Global) -> Result<String, AllocError> {
-        stack_and_buffer(heap, self.stack(), self.front(), self.words())
+    fn columns(&self, heap: Global, drawn: &str) -> Result<String, AllocError> {
+        stack_and_buffer(heap, self.stack(), self.front(), self.words(), drawn)
     }
 }
 
@@ -55,29 +55,34 @@ pub(crate) impl Told for ListBased as ListBasedTold {
     }
 
     fn headings(&self, heap: Global) -> Result<String, AllocError> {
-        three(heap, "first list", "second list", "buffer")
+        three(heap, "first list", "second list", "buffer", "new arc")
     }
 
-    fn columns(&self, heap: Global) -> Result<String, AllocError> {
+    fn columns(&self, heap: Global, drawn: &str) -> Result<String, AllocError> {
         let first = shown_span(heap, 0, self.first_list_len())?;
         let second = shown_span(heap, self.first_list_len(), self.front())?;
         let buffer = shown_span(heap, self.front(), self.words().get() + 1)?;
-        three(heap, first.as_str(), second.as_str(), buffer.as_str())
+        three(heap, first.as_str(), second.as_str(), buffer.as_str(), drawn)
     }
 }
 
-fn stack_and_buffer(heap: Global, stack: &[u8], front: u8, words: WordCount) -> Result<String, AllocError> {
+fn stack_and_buffer(heap: Global, stack: &[u8], front: u8, words: WordCount, drawn: &str) -> Result<String, AllocError> {
     let stack = shown_stack(heap, stack)?;
     let buffer = shown_span(heap, front, words.get() + 1)?;
-    two(heap, stack.as_str(), buffer.as_str())
+    two(heap, stack.as_str(), buffer.as_str(), drawn)
 }
 
-fn two(heap: Global, a: &str, b: &str) -> Result<String, AllocError> {
-    format!(heap, "{a:<24}  {b}")
+/// Columns side by side; a row without a new arc ends behind its buffer.
+fn two(heap: Global, stack: &str, buffer: &str, drawn: &str) -> Result<String, AllocError> {
+    if drawn.is_empty() {
+        return format!(heap, "{stack:<24}  {buffer}");
+    }
+    format!(heap, "{stack:<24}  {buffer:<24}  {drawn}")
 }
 
-fn three(heap: Global, a: &str, b: &str, c: &str) -> Result<String, AllocError> {
-    format!(heap, "{a:<24}  {b:<24}  {c}")
+fn three(heap: Global, first: &str, second: &str, buffer: &str, drawn: &str) -> Result<String, AllocError> {
+    let rest = two(heap, second, buffer, drawn)?;
+    format!(heap, "{first:<24}  {rest}")
 }
 
 /// The nodes of a stack, its top last.

@@ -20,8 +20,8 @@ use treebank::moves::MoveDisplay;
 use treebank::refusals::Refusal;
 use treebank::refusals::RefusalDisplay;
 
-/// The account of a run sheet, on the system that its first line names: every step with its move, its new arc and the
-/// configuration, then the head table, whether the sentence is finished, and the number of moves. It ends at the first
+/// The account of a run sheet, on the system that its first line names: every step with its move, the configuration
+/// and the new arc, then the head table, whether the sentence is finished, and the number of moves. It ends at the first
 /// line that is refused.
 pub(crate) fn account(heap: Global, sheet: &[u8]) -> Result<String, AllocError> {
     let Some(line) = SheetLine::read(sheet) else {
@@ -65,19 +65,19 @@ fn opening<S: Told>(heap: Global, system: &S) -> Result<String, AllocError> {
     let name = system.name();
     let words = system.words().get();
     let headings = system.headings(heap)?;
-    let columns = system.columns(heap)?;
-    format!(heap, "{name}, words: {words}\n\nstep  {:<13}  {:<21}  {headings}\n   0  {:<13}  {:<21}  {columns}\n", "move", "new arc", "begin", "")
+    let columns = system.columns(heap, "")?;
+    format!(heap, "{name}, words: {words}\n\nstep  {:<13}  {headings}\n   0  {:<13}  {columns}\n", "move", "begin")
 }
 
-/// One line of the account: the move, the arc that it drew, and what it left.
+/// One line of the account: the move, what it left, and the arc that it drew.
 fn step<S: Told>(heap: Global, number: usize, m: Move, arc: Option<Arc>, system: &S) -> Result<String, AllocError> {
     let name = format!(heap, "{m}")?;
     let drawn = match arc {
         Some(arc) => format!(heap, "{arc}")?,
         None => String::new(heap),
     };
-    let columns = system.columns(heap)?;
-    format!(heap, "{number:>4}  {name:<13}  {drawn:<21}  {columns}\n")
+    let columns = system.columns(heap, drawn.as_str())?;
+    format!(heap, "{number:>4}  {name:<13}  {columns}\n")
 }
 
 fn refusal(heap: Global, line: usize, why: Refusal) -> Result<String, AllocError> {
