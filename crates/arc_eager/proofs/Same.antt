@@ -7,7 +7,7 @@ use native.Mathlib.Nat.{ℕ-set}
 use native.Mathlib.Bridge.{le-prop}
 use lib.ListN.{length}
 use Rattle.treebank.specs.declared.rows.Row.{Row}
-use Rattle.arc_eager_theory.specs.Configurations.{Configuration, configuration}
+use Rattle.arc_eager_theory.specs.Configurations.{configuration}
 use Rattle.arc_eager.specs.declared.system.ArcEager.{ArcEager}
 
 pub same-system : (s t : ArcEager) → s .stack ≡ t .stack → s .depth ≡ t .depth → s .done ≡ t .done → s .arcs ≡ t .arcs → s ≡ t

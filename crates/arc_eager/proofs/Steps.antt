@@ -1,13 +1,12 @@
 -- What each move did to the system is what its verdict and its next configuration say.
-use mathlib.Core.Path.{_≡_, refl, sym, ap, subst, _∙_}
+use mathlib.Core.Path.{_≡_, refl, sym, ap, _∙_}
 use mathlib.Core.List.{List, _∷_, reverse}
-use mathlib.Core.Bool.{Bool, true, false, cond}
+use mathlib.Core.Bool.{false}
 use Prim.Native.Nat.{ℕ, _+_, _-_, _≤_, _<_}
 use native.Mathlib.Omega.{arith}
-use lib.ListN.{length, set, take}
+use lib.ListN.{set, take}
 use Rattle.std.proofs.shelf.Tests.{cond-true, cond-false, eqb-false}
 use Rattle.std.specs.Options.{isSome}
-use Rattle.std.specs.declared.option.Option.{Option}
 use Rattle.std.specs.declared.option.Option.the-variants.{Some, None}
 use Rattle.std.specs.declared.result.Result.the-variants.{Ok, Err}
 use Rattle.treebank.specs.declared.arcs.Arc.{Arc}
@@ -20,7 +19,7 @@ use Rattle.transition.specs.Meaning.{fault}
 use Rattle.transition.specs.Verdicts.{drawn}
 use Rattle.arc_store.specs.Drawing.{rows-of, put, arc-verdict}
 use Rattle.arc_store.proofs.Rowed.{rows-length}
-use Rattle.arc_eager_theory.specs.Configurations.{Configuration, configuration, words, finished, front, top, under}
+use Rattle.arc_eager_theory.specs.Configurations.{configuration, words, finished, top, under}
 use Rattle.arc_eager_theory.specs.Moves.{left-arc, right-arc, verdict, next}
 use Rattle.arc_eager.specs.declared.system.ArcEager.{ArcEager}
 use Rattle.arc_eager.specs.Held.{stack-of, held, Stepped}

@@ -2,29 +2,28 @@
 use mathlib.Core.Path.{_≡_, refl, sym, ap, subst, _∙_}
 use mathlib.Core.Logic.{_⊎_, inl, inr}
 use mathlib.Core.List.{List, [], _∷_, List·Memᴰ, List·Memᴰ·head, List·Memᴰ·tail, List·Memᴰ·cases-cons, List·Memᴰ·not-nil}
-use mathlib.Core.Bool.{Bool, true, false, cond, _&&_, _||_}
-use Prim.Native.Nat.{ℕ, _+_, _≤_, _<_}
+use mathlib.Core.Bool.{Bool, true, false, cond, _&&_}
+use Prim.Native.Nat.{ℕ, _+_, _<_}
 use native.Mathlib.Omega.{arith}
 use lib.ListN.{length}
-use Rattle.std.proofs.shelf.Tests.{and-parts, and-cases, and-from, or-cases, or-parts, or-left, or-right, both-ways, cond-true, cond-false}
+use Rattle.std.proofs.shelf.Tests.{and-parts, and-cases, or-cases, or-parts, both-ways, cond-true, cond-false}
 use Rattle.std.specs.Options.{isSome}
 use Rattle.std.specs.declared.option.Option.{Option}
 use Rattle.std.specs.declared.option.Option.the-variants.{Some, None}
-use Rattle.std.specs.declared.result.Result.the-variants.{Ok}
 use Rattle.treebank.specs.declared.arcs.Arc.{Arc}
 use Rattle.treebank.specs.declared.moves.Move.{Move}
 use Rattle.treebank.specs.declared.moves.Move.the-variants.{Shift, LeftArc, RightArc, Reduce}
 use Rattle.treebank.specs.declared.rows.Row.{Row}
-use Rattle.treebank.specs.Moves.{Label, Proper}
+use Rattle.treebank.specs.Moves.{Label}
 use Rattle.treebank.specs.Tables.{arc, Good-table, good-table?, arc-into, arc-between, table-arcs}
 use Rattle.treebank.specs.Trees.{_∈_, Heads, Joins}
 use Rattle.treebank.proofs.Said.{joining, into-mem, into-word, mem-into}
 use Rattle.treebank.proofs.Goodness.{good-exact, table-fits}
 use Rattle.arc_store.proofs.Putting.{put-fresh}
 use Rattle.guidance.specs.Viability.{Goes-on}
-use Rattle.arc_eager_theory.specs.Configurations.{Configuration, configuration, words, finished, front, top, under}
-use Rattle.arc_eager_theory.specs.Moves.{verdict, next, arc-eager}
-use Rattle.arc_eager_theory.specs.Advice.{joins, joins-any, reduce-advice, right-advice, left-advice, advice}
+use Rattle.arc_eager_theory.specs.Configurations.{Configuration, configuration, finished}
+use Rattle.arc_eager_theory.specs.Moves.{arc-eager}
+use Rattle.arc_eager_theory.specs.Advice.{joins, joins-any, right-advice, left-advice, advice}
 use Rattle.arc_eager_theory.specs.Viable.{Viable}
 use Rattle.arc_eager_theory.proofs.Kept.{Kept, inside}
 use Rattle.arc_eager_theory.proofs.Defined.{left-fresh, left-permits, right-fresh, right-permits, reduce-permits}

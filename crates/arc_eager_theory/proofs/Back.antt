@@ -1,12 +1,10 @@
 -- What is viable ends in the table's arcs, and goes back over each permitted move.
-use mathlib.Core.Path.{_≡_, refl, sym, ap, subst, _∙_}
+use mathlib.Core.Path.{_≡_, refl, sym, subst, _∙_}
 use mathlib.Core.Logic.{_⊎_, inl, inr, _↔_}
 use mathlib.Core.List.{List, [], _∷_, List·Memᴰ, List·Memᴰ·head, List·Memᴰ·tail, List·Memᴰ·cases-cons}
-use mathlib.Core.Bool.{Bool, true, false}
+use mathlib.Core.Bool.{true}
 use Prim.Native.Nat.{ℕ, _+_, _≤_, _<_, min, max}
 use native.Mathlib.Omega.{arith}
-use lib.ListN.{length}
-use lib.Dec.{eqb}
 use Rattle.std.proofs.shelf.Tests.{cases-eq, eqb-true}
 use Rattle.std.specs.declared.option.Option.{Option}
 use Rattle.treebank.specs.declared.arcs.Arc.{Arc}
@@ -19,8 +17,8 @@ use Rattle.treebank.proofs.Ways.{above-sub}
 use Rattle.treebank.proofs.Goodness.{table-fits}
 use Rattle.arc_store.specs.Drawing.{put}
 use Rattle.arc_store.proofs.Putting.{put-fresh}
-use Rattle.arc_eager_theory.specs.Configurations.{Configuration, configuration, words, finished, top, under}
-use Rattle.arc_eager_theory.specs.Moves.{left-arc, right-arc, next}
+use Rattle.arc_eager_theory.specs.Configurations.{Configuration, configuration, words, finished, top}
+use Rattle.arc_eager_theory.specs.Moves.{next}
 use Rattle.arc_eager_theory.specs.Viable.{In-play, Open, Viable}
 use Rattle.arc_eager_theory.proofs.Chains.{Desc, desc-below, top-most, top-under}
 use Rattle.arc_eager_theory.proofs.Kept.{Permitted, Kept}

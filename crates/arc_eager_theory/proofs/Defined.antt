@@ -1,11 +1,10 @@
 -- A move is permitted just where Nivre has a transition, and leads where that leads.
 use mathlib.Core.Path.{_≡_, refl, sym, ap, subst, _∙_}
 use mathlib.Core.Logic.{_⊎_, inl, inr}
-use mathlib.Core.List.{List, [], _∷_, List·Memᴰ, List·Memᴰ·head}
-use mathlib.Core.Bool.{Bool, true, false, cond}
+use mathlib.Core.List.{List, [], _∷_, List·Memᴰ·head}
+use mathlib.Core.Bool.{false}
 use Prim.Native.Nat.{ℕ, zero, suc, _+_, _-_, _≤_, _<_}
 use native.Mathlib.Omega.{arith}
-use lib.Dec.{eqb}
 use lib.ListN.{length}
 use Rattle.std.specs.Iters.{counting}
 use Rattle.std.specs.Options.{isSome}
@@ -19,7 +18,7 @@ use Rattle.treebank.specs.declared.moves.Move.{Move}
 use Rattle.treebank.specs.declared.moves.Move.the-variants.{Shift, LeftArc, RightArc, Reduce}
 use Rattle.treebank.specs.declared.rows.Row.{Row}
 use Rattle.treebank.specs.Tables.{arc, arc-into, table-arcs}
-use Rattle.treebank.specs.Trees.{_∈_, Above, Fresh}
+use Rattle.treebank.specs.Trees.{_∈_, Fresh}
 use Rattle.treebank.proofs.Said.{mem-into, table-words}
 use Rattle.treebank.proofs.Ways.{last-arc}
 use Rattle.transition.specs.Meaning.{Verdict}
@@ -29,10 +28,10 @@ use Rattle.arc_store.specs.Drawing.{put}
 use Rattle.arc_store.proofs.Freshness.{fresh-verdict}
 use Rattle.arc_store.proofs.Putting.{put-length, put-fresh}
 use Rattle.arc_store.proofs.Verdicts.{impossible}
-use Rattle.arc_eager_theory.specs.Configurations.{Configuration, configuration, words, start, finished, front, top, under}
+use Rattle.arc_eager_theory.specs.Configurations.{Configuration, configuration, words, start, finished, front}
 use Rattle.arc_eager_theory.specs.Moves.{left-arc, right-arc, verdict, next, arc-eager}
 use Rattle.arc_eager_theory.specs.Nivre.{Triple, triple, Headed, Transition, shown, As-defined}
-use Rattle.arc_eager_theory.proofs.Chains.{desc-below, top-under, above-mem}
+use Rattle.arc_eager_theory.proofs.Chains.{desc-below, above-mem}
 use Rattle.arc_eager_theory.proofs.Kept.{Permitted, permitted, Kept, kept, inside}
 
 counting-next : (b k : ℕ) → 1 ≤ k → counting b k ≡ b ∷ counting (b + 1) (k - 1)

@@ -1,23 +1,21 @@
 -- What a permitted move is, and what every configuration keeps.
-use mathlib.Core.Path.{_≡_, refl, sym, ap, subst, _∙_}
+use mathlib.Core.Path.{_≡_, refl, sym, ap, subst}
 use mathlib.Core.Logic.{_⊎_, inl, inr}
-use mathlib.Core.List.{List, [], _∷_, List·Memᴰ·head, List·Memᴰ·cases-cons, List·Memᴰ·not-nil}
-use mathlib.Core.Bool.{Bool, true, false, cond}
-use Prim.Native.Nat.{ℕ, _+_, _-_, _*_, _≤_, _<_}
+use mathlib.Core.List.{List, _∷_, List·Memᴰ·cases-cons, List·Memᴰ·not-nil}
+use mathlib.Core.Bool.{false, cond}
+use Prim.Native.Nat.{ℕ, _+_, _≤_, _<_}
 use native.Mathlib.Omega.{arith}
-use lib.Dec.{eqb}
 use lib.ListN.{length, length-replicate}
 use Rattle.std.proofs.shelf.Tests.{eqb-false}
 use Rattle.std.specs.Options.{isSome}
 use Rattle.std.specs.declared.option.Option.{Option}
 use Rattle.std.specs.declared.option.Option.the-variants.{Some, None}
-use Rattle.std.specs.declared.result.Result.the-variants.{Ok, Err}
+use Rattle.std.specs.declared.result.Result.the-variants.{Ok}
 use Rattle.treebank.specs.declared.arcs.Arc.{Arc}
 use Rattle.treebank.specs.declared.moves.Move.{Move}
 use Rattle.treebank.specs.declared.moves.Move.the-variants.{Shift, LeftArc, RightArc, Reduce, NoArc}
-use Rattle.treebank.specs.declared.rows.Row.{Row}
 use Rattle.treebank.specs.declared.refusals.Refusal.the-variants.{Finished, HasNoHead}
-use Rattle.treebank.specs.Tables.{arc, arc-into, table-arcs}
+use Rattle.treebank.specs.Tables.{arc-into, table-arcs}
 use Rattle.treebank.specs.Trees.{_∈_, Same-arcs, Fresh}
 use Rattle.treebank.proofs.Said.{into-mem, into-word, table-words}
 use Rattle.transition.specs.Meaning.{Verdict}

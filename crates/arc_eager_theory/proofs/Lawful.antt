@@ -1,31 +1,29 @@
 -- Arc-eager keeps the laws.
-use mathlib.Core.Path.{_≡_, refl, sym, ap, subst, _∙_}
+use mathlib.Core.Path.{_≡_, refl, sym, _∙_}
 use mathlib.Core.Logic.{_↔_}
-use mathlib.Core.List.{List, []}
 use mathlib.Core.Bool.{Bool, true, false, cond}
-use Prim.Native.Nat.{ℕ, _+_, _-_, _*_, _≤_, _<_}
+use Prim.Native.Nat.{ℕ, _≤_}
 use native.Mathlib.Omega.{arith}
-use lib.ListN.{length, length-replicate}
+use lib.ListN.{length-replicate}
 use Rattle.std.proofs.shelf.Tests.{both-ways, true≢false}
 use Rattle.std.specs.Options.{isSome}
 use Rattle.std.specs.declared.option.Option.{Option}
-use Rattle.std.specs.declared.option.Option.the-variants.{Some, None}
+use Rattle.std.specs.declared.option.Option.the-variants.{None}
 use Rattle.std.specs.declared.result.Result.the-variants.{Ok, Err}
 use Rattle.treebank.specs.declared.arcs.Arc.{Arc}
 use Rattle.treebank.specs.declared.moves.Move.{Move}
 use Rattle.treebank.specs.declared.moves.Move.the-variants.{Shift, LeftArc, RightArc, Reduce, NoArc}
-use Rattle.treebank.specs.declared.refusals.Refusal.the-variants.{ForeignMove, Finished, HasNoHead}
-use Rattle.treebank.specs.Tables.{arc-into, table-arcs}
+use Rattle.treebank.specs.declared.refusals.Refusal.the-variants.{Finished, HasNoHead}
+use Rattle.treebank.specs.Tables.{arc-into}
 use Rattle.transition.specs.declared.faults.Fault.{Fault}
-use Rattle.transition.specs.Meaning.{Verdict}
 use Rattle.transition.specs.Verdicts.{refused}
 use Rattle.transition.specs.Laws.{Begins, Draws, Foreign, Laws}
 use Rattle.arc_store.specs.Drawing.{bare}
 use Rattle.arc_store.proofs.Putting.{put-fresh, none-drawn}
 use Rattle.arc_store.proofs.Verdicts.{told-arc, Usual, usual-refusal, usual-test, usual-arc, not-foreign, usual-level, foreign-level}
 use Rattle.arc_eager_theory.specs.Configurations.{Configuration, words, start, finished, top}
-use Rattle.arc_eager_theory.specs.Moves.{own, left-arc, right-arc, verdict, next, arc-eager}
-use Rattle.arc_eager_theory.proofs.Kept.{Permitted, permitted, Kept, kept, inside, falls}
+use Rattle.arc_eager_theory.specs.Moves.{own, left-arc, right-arc, verdict, arc-eager}
+use Rattle.arc_eager_theory.proofs.Kept.{Permitted, permitted, kept, inside, falls}
 
 begins : (n : ℕ) → n ≤ 100 → Begins arc-eager n (start n)
 begins n h = record {

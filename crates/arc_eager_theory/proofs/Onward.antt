@@ -1,18 +1,18 @@
 -- The advice stays within what is viable.
 use mathlib.Core.Path.{_≡_, refl, sym, ap, subst, _∙_}
 use mathlib.Core.Logic.{_⊎_, inl, inr}
-use mathlib.Core.List.{List, [], _∷_, List·Memᴰ, List·Memᴰ·head, List·Memᴰ·tail, List·Memᴰ·cases-cons}
-use Prim.Native.Nat.{ℕ, _+_, _≤_, _<_, min, max}
+use mathlib.Core.List.{List, _∷_, List·Memᴰ, List·Memᴰ·head, List·Memᴰ·tail, List·Memᴰ·cases-cons}
+use Prim.Native.Nat.{ℕ, _+_, _≤_, _<_, max}
 use native.Mathlib.Omega.{arith}
 use Rattle.std.proofs.shelf.Tests.{cases-eq, cases-lt}
 use Rattle.treebank.specs.declared.arcs.Arc.{Arc}
 use Rattle.treebank.specs.declared.rows.Row.{Row}
 use Rattle.treebank.specs.Tables.{table-arcs}
-use Rattle.treebank.specs.Trees.{_∈_, Above, Acyclic, Between, Same-arcs}
+use Rattle.treebank.specs.Trees.{_∈_, Above, Same-arcs}
 use Rattle.treebank.proofs.Said.{table-single, table-words}
 use Rattle.treebank.proofs.Ways.{last-arc, no-circle, no-way-back, no-loop, no-pair, peel-arc}
 use Rattle.arc_store.specs.Drawing.{put}
-use Rattle.arc_eager_theory.specs.Configurations.{Configuration, configuration, top}
+use Rattle.arc_eager_theory.specs.Configurations.{configuration}
 use Rattle.arc_eager_theory.specs.Viable.{In-play, Open, Viable}
 use Rattle.arc_eager_theory.proofs.Chains.{desc-below, top-low, chain-mem}
 use Rattle.arc_eager_theory.proofs.Kept.{Kept}

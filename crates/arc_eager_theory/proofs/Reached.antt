@@ -1,11 +1,11 @@
 -- What is viable is what can be reached, and at the start these are the projective forests.
-use mathlib.Core.Path.{_≡_, refl, sym, ap, subst, _∙_}
+use mathlib.Core.Path.{_≡_, refl, sym, subst}
 use mathlib.Core.Logic.{_⊎_, inl, inr, _↔_}
 use mathlib.Core.List.{List, [], _∷_, List·Memᴰ·head, List·Memᴰ·not-nil}
 use mathlib.Core.Bool.{Bool, true, false, cond}
-use Prim.Native.Nat.{ℕ, _+_, _≤_, _<_, max}
+use Prim.Native.Nat.{ℕ, _≤_}
 use native.Mathlib.Omega.{arith}
-use lib.ListN.{length, length-replicate}
+use lib.ListN.{length-replicate}
 use Rattle.std.proofs.shelf.Tests.{cases-eq, cond-true, cond-false}
 use Rattle.std.specs.declared.option.Option.{Option}
 use Rattle.std.specs.declared.option.Option.the-variants.{None}
@@ -22,7 +22,7 @@ use Rattle.arc_store.proofs.Putting.{none-drawn}
 use Rattle.guidance.specs.Guides.{Guides}
 use Rattle.guidance.specs.Viability.{Viability, Viable-exactly}
 use Rattle.guidance.proofs.Viably.{viable-guides, viable-exactly, viable-reaches}
-use Rattle.arc_eager_theory.specs.Configurations.{Configuration, start, words, finished}
+use Rattle.arc_eager_theory.specs.Configurations.{start, words, finished}
 use Rattle.arc_eager_theory.specs.Moves.{arc-eager}
 use Rattle.arc_eager_theory.specs.Viable.{In-play, Open, Viable}
 use Rattle.arc_eager_theory.specs.Classes.{Projective-forest, Reaches-projective-forests}

@@ -1,14 +1,13 @@
 -- Systems with the same parts are the same, whatever proofs their facts have.
-use mathlib.Core.Path.{_≡_, refl}
+use mathlib.Core.Path.{_≡_}
 use mathlib.Core.HLevel.{isProp→PathP}
 use mathlib.Core.List.{List}
 use Prim.Native.Nat.{ℕ, _+_, _≤_}
 use native.Mathlib.Nat.{ℕ-set}
 use native.Mathlib.Bridge.{le-prop}
 use lib.ListN.{length}
-use Rattle.arc_store.specs.declared.store.ArcStore.{ArcStore}
 use Rattle.arc_standard.specs.declared.system.ArcStandard.{ArcStandard}
-use Rattle.arc_standard_theory.specs.Configurations.{Configuration, configuration}
+use Rattle.arc_standard_theory.specs.Configurations.{configuration}
 use Rattle.treebank.specs.declared.rows.Row.{Row}
 
 pub same-system : (s t : ArcStandard) → s .stack ≡ t .stack → s .depth ≡ t .depth → s .front ≡ t .front → s .arcs ≡ t .arcs → s ≡ t

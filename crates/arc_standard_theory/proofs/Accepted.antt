@@ -1,27 +1,20 @@
 -- What a permitted move is.
-use mathlib.Core.Path.{_≡_, refl, sym, ap, subst, _∙_}
+use mathlib.Core.Path.{_≡_, sym, subst}
 use mathlib.Core.List.{List, [], _∷_}
-use mathlib.Core.Bool.{Bool, true, false, cond}
-use Prim.Native.Nat.{ℕ, _+_, _≤_, _<_}
-use native.Mathlib.Omega.{arith}
+use Prim.Native.Nat.{ℕ, _+_, _≤_}
 use lib.ListN.{length}
-use lib.Dec.{ltb}
 use Rattle.std.proofs.shelf.Tests.{ltb-false}
 use Rattle.std.specs.declared.option.Option.{Option}
 use Rattle.std.specs.declared.option.Option.the-variants.{Some, None}
-use Rattle.std.specs.declared.result.Result.{Result}
-use Rattle.std.specs.declared.result.Result.the-variants.{Ok, Err}
+use Rattle.std.specs.declared.result.Result.the-variants.{Ok}
 use Rattle.treebank.specs.declared.arcs.Arc.{Arc}
 use Rattle.treebank.specs.declared.moves.Move.{Move}
 use Rattle.treebank.specs.declared.moves.Move.the-variants.{Shift, LeftArc, RightArc, Reduce, NoArc}
 use Rattle.treebank.specs.declared.rows.Row.{Row}
-use Rattle.treebank.specs.declared.refusals.Refusal.{Refusal}
 use Rattle.treebank.specs.declared.refusals.Refusal.the-variants.{Finished, TooFewNodes}
 use Rattle.treebank.specs.Tables.{arc, table-arcs}
 use Rattle.treebank.specs.Trees.{Fresh}
-use Rattle.transition.specs.declared.faults.Fault.{Fault}
-use Rattle.transition.specs.Meaning.{Verdict}
-use Rattle.arc_store.specs.Drawing.{put, arc-verdict}
+use Rattle.arc_store.specs.Drawing.{put}
 use Rattle.arc_store.proofs.Verdicts.{impossible, passed, stored}
 use Rattle.arc_standard_theory.specs.Configurations.{Configuration, configuration, words, finished, emptied, top-two}
 use Rattle.arc_standard_theory.specs.Moves.{between, left-arc, right-arc, left-next, right-next, verdict, next}

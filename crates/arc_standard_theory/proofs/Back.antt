@@ -1,15 +1,15 @@
 -- A move back from a viable configuration.
-use mathlib.Core.Path.{_≡_, refl, sym, ap, subst, _∙_}
-use mathlib.Core.Logic.{_⊎_, inl, inr, _↔_}
-use mathlib.Core.List.{List, [], _∷_, List·Memᴰ, List·Memᴰ·head, List·Memᴰ·tail, List·Memᴰ·cases-cons, List·Memᴰ·not-nil, Memᴰ·cast}
-use Prim.Native.Nat.{ℕ, zero, suc, _+_, _-_, _*_, _≤_, _<_}
+use mathlib.Core.Path.{_≡_, refl, sym, subst}
+use mathlib.Core.Logic.{_⊎_, inl, inr}
+use mathlib.Core.List.{List, _∷_, List·Memᴰ, List·Memᴰ·head, List·Memᴰ·tail, List·Memᴰ·cases-cons}
+use Prim.Native.Nat.{ℕ, _+_, _≤_, _<_}
 use native.Mathlib.Omega.{arith}
 use Rattle.treebank.specs.declared.arcs.Arc.{Arc}
 use Rattle.std.proofs.shelf.Tests.{cases-eq}
 use Rattle.treebank.specs.Trees.{Heads, Above, Between, Single-headed}
 use Rattle.treebank.proofs.Ways.{above-one, above-more, one-head}
 use Rattle.arc_standard_theory.proofs.Descending.{Under, under-mem, Place, place, play-second, play-top, play-not-second, play-not-top, play-shift, play-unshift}
-use Rattle.arc_standard_theory.specs.Viable.{Play, Joined, Spine, Rest}
+use Rattle.arc_standard_theory.specs.Viable.{Play, Joined, Rest}
 
 -- before a Shift
 pub back-shift : {W : List Arc} {n b : ℕ} {st : List ℕ} → b ≤ n → Rest W n (b ∷ st) (b + 1) → Rest W n st b

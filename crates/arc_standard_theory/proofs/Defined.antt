@@ -1,8 +1,8 @@
 -- A move is permitted just where Nivre has a transition, and leads where that leads.
 use mathlib.Core.Path.{_≡_, refl, sym, ap, subst, _∙_}
 use mathlib.Core.Logic.{_⊎_, inl, inr}
-use mathlib.Core.List.{List, [], _∷_, List·Memᴰ, List·Memᴰ·head, List·Memᴰ·tail}
-use mathlib.Core.Bool.{Bool, true, false, cond}
+use mathlib.Core.List.{List, [], _∷_, List·Memᴰ·head, List·Memᴰ·tail}
+use mathlib.Core.Bool.{false}
 use Prim.Native.Nat.{ℕ, zero, suc, _+_, _-_, _≤_, _<_}
 use native.Mathlib.Omega.{arith}
 use lib.ListN.{length}
@@ -21,11 +21,11 @@ use Rattle.treebank.specs.Trees.{Fresh}
 use Rattle.transition.specs.Meaning.{Verdict}
 use Rattle.transition.specs.Verdicts.{drawn}
 use Rattle.transition.specs.Runs.{Arises}
-use Rattle.arc_store.specs.Drawing.{arc-verdict, put}
+use Rattle.arc_store.specs.Drawing.{put}
 use Rattle.arc_store.proofs.Freshness.{fresh-verdict}
 use Rattle.arc_store.proofs.Putting.{put-length, put-fresh}
-use Rattle.arc_standard_theory.specs.Configurations.{Configuration, configuration, words, start, root-alone, finished, emptied, top-two}
-use Rattle.arc_standard_theory.specs.Moves.{between, left-arc, right-arc, verdict, next, arc-standard}
+use Rattle.arc_standard_theory.specs.Configurations.{Configuration, configuration, words, start, root-alone, finished, emptied}
+use Rattle.arc_standard_theory.specs.Moves.{left-arc, right-arc, verdict, next, arc-standard}
 use Rattle.arc_standard_theory.specs.Nivre.{Triple, triple, Transition, shown, As-defined}
 use Rattle.arc_standard_theory.proofs.Accepted.{Makes, makes}
 use Rattle.arc_store.proofs.Verdicts.{impossible}

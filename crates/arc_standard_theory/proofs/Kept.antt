@@ -1,8 +1,8 @@
 -- What every configuration keeps: the stack descends from the buffer to the root, and the words in play have no head.
 use mathlib.Core.Path.{_≡_, refl, sym, ap, subst, _∙_}
 use mathlib.Core.Logic.{_⊎_, inl, inr}
-use mathlib.Core.List.{List, [], _∷_, List·Memᴰ, List·Memᴰ·head, List·Memᴰ·tail, List·Memᴰ·cases-cons, List·Memᴰ·not-nil}
-use Prim.Native.Nat.{ℕ, zero, suc, _+_, _-_, _≤_, _<_}
+use mathlib.Core.List.{List, _∷_, List·Memᴰ, List·Memᴰ·head, List·Memᴰ·tail, List·Memᴰ·cases-cons, List·Memᴰ·not-nil}
+use Prim.Native.Nat.{ℕ, _+_, _≤_}
 use native.Mathlib.Omega.{arith}
 use lib.ListN.{length, length-replicate}
 use Rattle.std.proofs.shelf.Tests.{cases-eq}
@@ -20,7 +20,7 @@ use Rattle.arc_store.proofs.Putting.{put-length, put-fresh, none-drawn}
 use Rattle.arc_standard_theory.specs.Configurations.{Configuration, configuration, words, start}
 use Rattle.arc_standard_theory.specs.Moves.{arc-standard}
 use Rattle.arc_standard_theory.proofs.Accepted.{Makes, makes}
-use Rattle.arc_standard_theory.proofs.Descending.{Under, under-mem, under-more, Place, place, play-second, play-top, play-not-second, play-not-top, play-shift, play-unshift}
+use Rattle.arc_standard_theory.proofs.Descending.{Under, under-mem, under-more, place, play-second, play-top, play-not-second, play-not-top, play-shift, play-unshift}
 use Rattle.arc_standard_theory.specs.Viable.{Play}
 
 -- on the stack or in the buffer

@@ -1,39 +1,30 @@
 -- Arc-standard keeps the laws.
-use mathlib.Core.Path.{_≡_, refl, sym, ap, subst, _∙_}
-use mathlib.Core.Logic.{_⊎_, inl, inr, _↔_}
-use mathlib.Core.List.{List, [], _∷_}
-use mathlib.Core.Bool.{Bool, true, false, cond}
-use Prim.Native.Nat.{ℕ, _+_, _-_, _*_, _≤_, _<_}
+use mathlib.Core.Path.{_≡_, refl, sym}
+use mathlib.Core.Logic.{_↔_}
+use mathlib.Core.List.{List}
+use mathlib.Core.Bool.{true, false}
+use Prim.Native.Nat.{ℕ, _≤_, _<_}
 use native.Mathlib.Omega.{arith}
-use lib.Dec.{eqb}
-use lib.ListN.{length, length-replicate}
+use lib.ListN.{length-replicate}
 use Rattle.std.proofs.shelf.Tests.{both-ways, true≢false}
-use Rattle.std.specs.Options.{isSome}
 use Rattle.std.specs.declared.option.Option.{Option}
 use Rattle.std.specs.declared.option.Option.the-variants.{Some, None}
-use Rattle.std.specs.declared.result.Result.{Result}
 use Rattle.std.specs.declared.result.Result.the-variants.{Ok, Err}
 use Rattle.treebank.specs.declared.arcs.Arc.{Arc}
 use Rattle.treebank.specs.declared.moves.Move.{Move}
 use Rattle.treebank.specs.declared.moves.Move.the-variants.{Shift, LeftArc, RightArc, Reduce, NoArc}
 use Rattle.treebank.specs.declared.rows.Row.{Row}
-use Rattle.treebank.specs.declared.refusals.Refusal.{Refusal}
-use Rattle.treebank.specs.declared.refusals.Refusal.the-variants.{ForeignMove, Finished, TooFewNodes, IntoRoot, HasHead, WouldCircle}
-use Rattle.treebank.specs.Refusals.{number}
-use Rattle.treebank.specs.Tables.{arc, arc-into, table-arcs}
-use Rattle.treebank.specs.Trees.{Same-arcs}
-use Rattle.treebank.proofs.Said.{into-word, into-mem, mem-into}
+use Rattle.treebank.specs.declared.refusals.Refusal.the-variants.{Finished, TooFewNodes}
+use Rattle.treebank.specs.Tables.{arc, arc-into}
 use Rattle.transition.specs.declared.faults.Fault.{Fault}
-use Rattle.transition.specs.Meaning.{Verdict, fault}
-use Rattle.transition.specs.Runs.{Arises}
-use Rattle.transition.specs.Laws.{Begins, Arc-into, Draws, Foreign, Laws}
-use Rattle.arc_store.specs.Drawing.{bare, put, outside, circles, arc-verdict}
+use Rattle.transition.specs.Laws.{Begins, Draws, Foreign, Laws}
+use Rattle.arc_store.specs.Drawing.{bare}
 use Rattle.arc_store.proofs.Putting.{put-length, put-fresh, none-drawn}
-use Rattle.arc_standard_theory.specs.Configurations.{Configuration, configuration, words, start, finished, emptied, top-two, remaining}
+use Rattle.arc_standard_theory.specs.Configurations.{Configuration, words, start, finished, emptied, top-two, remaining}
 use Rattle.arc_standard_theory.specs.Moves.{own, between, left-arc, right-arc, verdict, next, arc-standard}
 use Rattle.arc_store.proofs.Verdicts.{impossible, passed, told-arc, Usual, usual-refusal, usual-test, usual-arc, not-foreign, usual-level, foreign-level}
 use Rattle.arc_standard_theory.proofs.Accepted.{Makes, makes}
-use Rattle.arc_standard_theory.proofs.Kept.{Kept, kept}
+use Rattle.arc_standard_theory.proofs.Kept.{kept}
 
 begins : (n : ℕ) → n ≤ 100 → Begins arc-standard n (start n)
 begins n h = record {

@@ -1,15 +1,15 @@
 -- The way on from a viable configuration with two nodes or more on the stack.
-use mathlib.Core.Path.{_≡_, refl, sym, ap, subst, _∙_}
-use mathlib.Core.Logic.{_⊎_, inl, inr, _↔_}
-use mathlib.Core.List.{List, [], _∷_, List·Memᴰ, List·Memᴰ·head, List·Memᴰ·tail, List·Memᴰ·cases-cons, List·Memᴰ·not-nil, Memᴰ·cast}
-use Prim.Native.Nat.{ℕ, zero, suc, _+_, _-_, _*_, _≤_, _<_}
+use mathlib.Core.Path.{_≡_, refl, sym, subst}
+use mathlib.Core.Logic.{_⊎_, inl, inr}
+use mathlib.Core.List.{List, _∷_, List·Memᴰ, List·Memᴰ·head, List·Memᴰ·tail, List·Memᴰ·cases-cons}
+use Prim.Native.Nat.{ℕ, _+_, _≤_, _<_}
 use native.Mathlib.Omega.{arith}
 use Rattle.treebank.specs.declared.arcs.Arc.{Arc}
-use Rattle.std.proofs.shelf.Tests.{cases-eq, cases-lt}
-use Rattle.treebank.specs.Trees.{Heads, Above, Acyclic, Between, Single-headed}
-use Rattle.treebank.proofs.Ways.{above-trans, above-one, above-more, one-head, peel, no-circle, no-turn, no-self}
+use Rattle.std.proofs.shelf.Tests.{cases-eq}
+use Rattle.treebank.specs.Trees.{Heads, Above, Acyclic, Single-headed}
+use Rattle.treebank.proofs.Ways.{above-trans, above-one, peel, no-circle, no-turn, no-self}
 use Rattle.arc_standard_theory.proofs.Descending.{Under, under-mem, Place, place, play-second, play-top, play-not-second, play-not-top, play-shift, play-unshift}
-use Rattle.arc_standard_theory.specs.Viable.{Play, Joined, Spine, Rest, Total}
+use Rattle.arc_standard_theory.specs.Viable.{Play, Joined, Rest, Total}
 
 module _ {W : List Arc} (single : Single-headed W) (acyclic : Acyclic W) {n b j i : ℕ} {s : List ℕ} (u : Under b (j ∷ (i ∷ s))) (r : Rest W n (j ∷ (i ∷ s)) b) where
   at-j : Play n (j ∷ (i ∷ s)) b j

@@ -1,14 +1,14 @@
 -- What is viable is what can be reached.
-use mathlib.Core.Path.{_≡_, refl, sym, ap, subst, _∙_}
-use mathlib.Core.Logic.{_⊎_, inl, inr, _↔_}
+use mathlib.Core.Path.{_≡_, refl, sym, ap, subst}
+use mathlib.Core.Logic.{_⊎_, inl, inr}
 use mathlib.Core.List.{List, [], _∷_, List·Memᴰ, List·Memᴰ·head, List·Memᴰ·tail, List·Memᴰ·not-nil, Memᴰ·cast}
-use mathlib.Core.Bool.{Bool, true, false, cond, _&&_}
-use Prim.Native.Nat.{ℕ, _+_, _≤_, _<_}
+use mathlib.Core.Bool.{Bool, true, false, cond}
+use Prim.Native.Nat.{ℕ, _≤_}
 use native.Mathlib.Omega.{arith}
 use lib.ListN.{length}
 use Rattle.std.proofs.shelf.Tests.{eqb-true, ltb-true, and-parts, cond-true, cond-false}
 use Rattle.std.specs.declared.option.Option.{Option}
-use Rattle.std.specs.declared.option.Option.the-variants.{Some, None}
+use Rattle.std.specs.declared.option.Option.the-variants.{None}
 use Rattle.treebank.specs.declared.arcs.Arc.{Arc}
 use Rattle.treebank.specs.declared.moves.Move.{Move}
 use Rattle.treebank.specs.declared.rows.Row.{Row}
@@ -17,7 +17,6 @@ use Rattle.treebank.specs.Trees.{_∈_, Heads, Acyclic, Same-arcs}
 use Rattle.treebank.proofs.Said.{table-single}
 use Rattle.treebank.proofs.Ways.{above-sub}
 use Rattle.treebank.proofs.Goodness.{table-fits, not-good}
-use Rattle.transition.specs.Runs.{Arises}
 use Rattle.transition.proofs.Forests.{arcs-forest}
 use Rattle.arc_store.specs.Drawing.{put}
 use Rattle.arc_store.proofs.Putting.{put-length, put-fresh}
@@ -26,7 +25,6 @@ use Rattle.guidance.specs.Viability.{Viability, Viable-exactly}
 use Rattle.guidance.proofs.Viably.{viable-guides, viable-exactly}
 use Rattle.arc_standard_theory.specs.Configurations.{Configuration, configuration, words, start, root-alone, emptied, finished}
 use Rattle.arc_standard_theory.specs.Moves.{arc-standard}
-use Rattle.arc_standard_theory.specs.Advice.{advice}
 use Rattle.arc_standard_theory.proofs.Accepted.{Makes, makes}
 use Rattle.arc_standard_theory.proofs.Kept.{Kept, kept, In}
 use Rattle.arc_standard_theory.proofs.Lawful.{lawful}

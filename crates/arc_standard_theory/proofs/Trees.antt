@@ -1,6 +1,6 @@
 -- At the start the viable tables are the projective trees.
-use mathlib.Core.Path.{_≡_, refl, sym, ap, subst, _∙_}
-use mathlib.Core.Logic.{_⊎_, inl, inr, _↔_}
+use mathlib.Core.Path.{_≡_, sym, subst}
+use mathlib.Core.Logic.{_⊎_, inl, inr}
 use mathlib.Core.List.{List, [], _∷_, List·Memᴰ·head, List·Memᴰ·not-nil}
 use Prim.Native.Nat.{ℕ, _+_, _-_, _≤_, _<_}
 use native.Mathlib.Omega.{arith}
@@ -9,14 +9,13 @@ use Rattle.std.proofs.shelf.Tests.{cases-lt}
 use Rattle.treebank.specs.declared.arcs.Arc.{Arc}
 use Rattle.treebank.specs.declared.rows.Row.{Row}
 use Rattle.treebank.specs.Tables.{arc, Headless, Good-table, row-at, table-arcs}
-use Rattle.treebank.specs.Trees.{_∈_, Heads, Above, Between, Tree, Projective}
+use Rattle.treebank.specs.Trees.{_∈_, Heads, Above, Between, Tree}
 use Rattle.treebank.proofs.Goodness.{table-fits, row-heads, heads-row}
 use Rattle.transition.proofs.Running.{arises-start}
 use Rattle.arc_store.specs.Drawing.{bare}
 use Rattle.arc_store.proofs.Putting.{none-drawn}
 use Rattle.guidance.proofs.Viably.{viable-reaches}
 use Rattle.arc_standard_theory.specs.Configurations.{start, words}
-use Rattle.arc_standard_theory.specs.Moves.{arc-standard}
 use Rattle.arc_standard_theory.specs.Classes.{Projective-tree, Reaches-projective-trees}
 
 use Rattle.arc_standard_theory.proofs.Lawful.{lawful}

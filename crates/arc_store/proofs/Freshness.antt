@@ -1,13 +1,13 @@
 -- The tests permit exactly a fresh arc.
-use mathlib.Core.Path.{_≡_, refl, sym, ap, subst, _∙_}
-use mathlib.Core.Logic.{_⊎_, inl, inr, _↔_}
+use mathlib.Core.Path.{_≡_, refl, sym, ap, _∙_}
+use mathlib.Core.Logic.{_↔_}
 use mathlib.Core.List.{List}
-use mathlib.Core.Bool.{Bool, true, false, cond, _||_}
-use Prim.Native.Nat.{ℕ, _≤_, _<_}
+use mathlib.Core.Bool.{Bool, true, false, cond}
+use Prim.Native.Nat.{ℕ, _≤_}
 use native.Mathlib.Omega.{arith}
 use lib.Dec.{eqb, ltb}
 use lib.ListN.{length}
-use Rattle.std.proofs.shelf.Tests.{eqb-false, ne-eqb, ltb-false, le-ltb, or-parts, or-from, cond-true, cond-false, both-ways, cases-bool}
+use Rattle.std.proofs.shelf.Tests.{eqb-false, ne-eqb, ltb-false, le-ltb, or-parts, or-from, cond-true, cond-false, both-ways}
 use Rattle.std.specs.Options.{isSome}
 use Rattle.std.specs.declared.option.Option.{Option}
 use Rattle.std.specs.declared.option.Option.the-variants.{Some, None}
@@ -18,7 +18,7 @@ use Rattle.treebank.specs.declared.rows.Row.{Row}
 use Rattle.treebank.specs.declared.refusals.Refusal.{Refusal}
 use Rattle.treebank.specs.declared.refusals.Refusal.the-variants.{TooFewNodes, IntoRoot, HasHead, WouldCircle}
 use Rattle.treebank.specs.Tables.{arc-into, table-arcs}
-use Rattle.treebank.specs.Trees.{_∈_, Above, Fresh}
+use Rattle.treebank.specs.Trees.{Fresh}
 use Rattle.treebank.specs.Climbs.{comes-to}
 use Rattle.treebank.proofs.Said.{mem-into, into-mem, into-word}
 use Rattle.treebank.proofs.Climbing.{climb-exact}

@@ -1,21 +1,20 @@
 -- Rows with one arc more.
 use mathlib.Core.Path.{_≡_, refl, sym, ap, subst, _∙_}
-use mathlib.Core.Logic.{_⊎_, inl, inr, _↔_}
+use mathlib.Core.Logic.{_⊎_, inl, inr}
 use mathlib.Core.List.{List, [], _∷_, List·Memᴰ·head, List·Memᴰ·tail, List·Memᴰ·cases-cons}
-use mathlib.Core.Bool.{Bool, true, false, cond}
-use Prim.Native.Nat.{ℕ, zero, suc, _+_, _-_, _≤_, _<_}
+use mathlib.Core.Bool.{cond}
+use Prim.Native.Nat.{ℕ, zero, suc, _+_, _-_, _≤_}
 use native.Mathlib.Omega.{arith}
 use lib.Dec.{eqb, ltb}
-use lib.ListN.{length, set, replicate, length-set}
+use lib.ListN.{length, replicate, length-set}
 use lib.Seq.{getD-set-same, getD-set-other}
-use Rattle.std.proofs.shelf.Tests.{cases-eq, ne-eqb, le-ltb, cond-false}
-use Rattle.std.specs.declared.option.Option.{Option}
+use Rattle.std.proofs.shelf.Tests.{cases-eq, ne-eqb, cond-false}
 use Rattle.std.specs.declared.option.Option.the-variants.{Some, None}
 use Rattle.treebank.specs.declared.arcs.Arc.{Arc}
 use Rattle.treebank.specs.declared.rows.Row.{Row}
 use Rattle.treebank.specs.Tables.{row, arc, row-at, row-arc, arc-into, arcs-from, table-arcs}
 use Rattle.treebank.specs.Trees.{_∈_, Same-arcs, Fresh}
-use Rattle.treebank.proofs.Said.{table-mem, into-row, into-word}
+use Rattle.treebank.proofs.Said.{table-mem, into-row}
 use Rattle.arc_store.specs.Drawing.{bare, put}
 
 module _ (w : List Row) (a : Arc) where

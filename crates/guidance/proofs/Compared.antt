@@ -1,18 +1,15 @@
 -- Arcs compared word by word.
 use mathlib.Core.Path.{_≡_, refl, sym, ap, subst, _∙_}
-use mathlib.Core.Logic.{_⊎_, inl, inr, _↔_}
 use mathlib.Core.List.{List}
-use mathlib.Core.Bool.{true, false}
 use Prim.Native.Nat.{ℕ, _≤_}
 use native.Mathlib.Omega.{arith}
 use lib.ListN.{length}
 use Rattle.std.specs.declared.option.Option.{Option}
 use Rattle.std.specs.declared.option.Option.the-variants.{Some, None}
 use Rattle.treebank.specs.declared.arcs.Arc.{Arc}
-use Rattle.treebank.specs.declared.moves.Move.{Move}
 use Rattle.treebank.specs.declared.rows.Row.{Row}
-use Rattle.treebank.specs.Tables.{Good-table, arc-into, table-arcs}
-use Rattle.treebank.specs.Trees.{_∈_, Dependency-forest, Same-arcs}
+use Rattle.treebank.specs.Tables.{arc-into, table-arcs}
+use Rattle.treebank.specs.Trees.{_∈_, Same-arcs}
 use Rattle.treebank.proofs.Said.{table-mem, table-words, into-mem, mem-into, into-word}
 use Rattle.transition.specs.Meaning.{Meaning}
 use Rattle.transition.specs.Runs.{Arises}

@@ -1,5 +1,5 @@
 -- Where the advice is reliable, following it makes every table that can be reached.
-use mathlib.Core.Path.{_≡_, refl, sym, ap, ap₂, subst, _∙_}
+use mathlib.Core.Path.{_≡_, refl, sym, subst, _∙_}
 use mathlib.Core.Logic.{_↔_}
 use mathlib.Core.List.{List, [], _∷_}
 use mathlib.Core.Bool.{Bool, true, false}
@@ -7,15 +7,14 @@ use Prim.Native.Nat.{ℕ, zero, suc, _<_}
 use native.Mathlib.Omega.{arith}
 use Rattle.std.specs.declared.option.Option.{Option}
 use Rattle.std.specs.declared.option.Option.the-variants.{Some, None}
-use Rattle.std.specs.declared.result.Result.the-variants.{Ok, Err}
+use Rattle.std.specs.declared.result.Result.the-variants.{Ok}
 use Rattle.treebank.specs.declared.arcs.Arc.{Arc}
 use Rattle.treebank.specs.declared.moves.Move.{Move}
 use Rattle.treebank.specs.declared.rows.Row.{Row}
 use Rattle.treebank.specs.Moves.{Proper}
 use Rattle.treebank.specs.Tables.{Good-table, table-arcs}
 use Rattle.treebank.specs.Trees.{Same-arcs}
-use Rattle.transition.specs.declared.faults.Fault.{Fault}
-use Rattle.transition.specs.Meaning.{Meaning, Verdict}
+use Rattle.transition.specs.Meaning.{Meaning}
 use Rattle.transition.specs.Runs.{Run, Reaches, Arises}
 use Rattle.transition.specs.Laws.{Laws}
 use Rattle.transition.proofs.Running.{arises-next}

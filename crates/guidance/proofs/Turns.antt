@@ -1,6 +1,6 @@
 -- One turn of following the advice.
-use mathlib.Core.Path.{_≡_, refl, sym, ap, subst, _∙_}
-use mathlib.Core.Logic.{_⊎_, inl, inr}
+use mathlib.Core.Path.{_≡_, sym, subst, _∙_}
+use mathlib.Core.Logic.{inl, inr}
 use mathlib.Core.List.{List, [], _∷_, _++_}
 use mathlib.Core.Bool.{true, false}
 use Prim.Native.Nat.{ℕ, _≤_, _<_}
@@ -12,11 +12,10 @@ use Rattle.std.specs.declared.result.Result.the-variants.{Ok, Err}
 use Rattle.treebank.specs.declared.arcs.Arc.{Arc}
 use Rattle.treebank.specs.declared.moves.Move.{Move}
 use Rattle.treebank.specs.declared.rows.Row.{Row}
-use Rattle.treebank.specs.declared.refusals.Refusal.the-variants.{BadLabel}
 use Rattle.treebank.specs.Moves.{Proper}
 use Rattle.treebank.specs.Tables.{Good-row, Good-table, row-at}
 use Rattle.transition.specs.declared.faults.Fault.{Fault}
-use Rattle.transition.specs.Meaning.{Meaning, Verdict, fault}
+use Rattle.transition.specs.Meaning.{Meaning, Verdict}
 use Rattle.transition.specs.Runs.{Run, Reaches, Arises}
 use Rattle.transition.specs.Laws.{Laws}
 use Rattle.transition.specs.Making.{Made}

@@ -1,5 +1,5 @@
 -- A viable table is just one that can be reached, and then the advice guides.
-use mathlib.Core.Path.{_≡_, refl, sym, _∙_}
+use mathlib.Core.Path.{_≡_, refl}
 use mathlib.Core.Logic.{_↔_}
 use mathlib.Core.List.{List, [], _∷_}
 use mathlib.Core.Bool.{Bool, true, false}
@@ -15,7 +15,6 @@ use Rattle.transition.specs.Runs.{Run, Reaches, Arises}
 use Rattle.transition.specs.Laws.{Laws}
 use Rattle.transition.proofs.Running.{arises-next}
 use Rattle.guidance.specs.Guides.{Guides}
-use Rattle.guidance.specs.Following.{Derives}
 use Rattle.guidance.specs.Viability.{Viability, Viable-exactly}
 use Rattle.guidance.proofs.Followed.{good-next, derives}
 

@@ -1,8 +1,7 @@
 -- Systems with the same parts are the same, whatever proofs their facts have.
-use mathlib.Core.Path.{_≡_, refl}
+use mathlib.Core.Path.{_≡_}
 use mathlib.Core.HLevel.{isProp→PathP}
-use mathlib.Core.List.{List}
-use Prim.Native.Nat.{ℕ, _+_, _*_, _≤_}
+use Prim.Native.Nat.{_+_, _*_, _≤_}
 use native.Mathlib.Bridge.{le-prop}
 use Rattle.list_based.specs.declared.system.ListBased.{ListBased}
 

@@ -2,7 +2,7 @@
 use mathlib.Core.Path.{_≡_, sym, subst}
 use mathlib.Core.List.{List}
 use mathlib.Core.Bool.{cond}
-use Prim.Native.Nat.{ℕ, _+_, _-_, _≤_, _<_}
+use Prim.Native.Nat.{ℕ, _+_, _-_, _≤_}
 use native.Mathlib.Omega.{arith}
 use lib.ListN.{length}
 use Rattle.std.proofs.shelf.Tests.{ltb-false, eqb-false}
@@ -20,7 +20,7 @@ use Rattle.transition.specs.Meaning.{Verdict}
 use Rattle.transition.specs.Verdicts.{refused}
 use Rattle.arc_store.specs.Drawing.{put}
 use Rattle.arc_store.proofs.Verdicts.{impossible, passed, stored}
-use Rattle.list_based_theory.specs.Configurations.{Configuration, configuration, words, finished, emptied, last}
+use Rattle.list_based_theory.specs.Configurations.{Configuration, configuration, words, finished, emptied}
 use Rattle.list_based_theory.specs.Moves.{left-arc, right-arc, verdict, next}
 
 -- a permitted move, the arc that it draws, and the configuration that it leads to

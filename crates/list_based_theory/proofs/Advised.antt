@@ -2,26 +2,24 @@
 use mathlib.Core.Path.{_≡_, refl, sym, ap, subst, _∙_}
 use mathlib.Core.Logic.{_⊎_, inl, inr}
 use mathlib.Core.List.{List}
-use mathlib.Core.Bool.{Bool, true, false, cond}
-use Prim.Native.Nat.{ℕ, _+_, _-_, _≤_, _<_, min, max}
+use mathlib.Core.Bool.{Bool, true, false}
+use Prim.Native.Nat.{ℕ, _≤_, _<_}
 use native.Mathlib.Omega.{arith}
-use lib.ListN.{length}
 use Rattle.std.proofs.shelf.Tests.{cases-eq, eq-eqb, ne-eqb, ltb-false, cond-true, cond-false}
 use Rattle.std.specs.declared.option.Option.{Option}
 use Rattle.std.specs.declared.option.Option.the-variants.{Some, None}
-use Rattle.std.specs.declared.result.Result.the-variants.{Ok}
 use Rattle.treebank.specs.declared.arcs.Arc.{Arc}
 use Rattle.treebank.specs.declared.moves.Move.{Move}
 use Rattle.treebank.specs.declared.moves.Move.the-variants.{Shift, LeftArc, RightArc, NoArc}
 use Rattle.treebank.specs.declared.rows.Row.{Row}
-use Rattle.treebank.specs.Moves.{Label, Proper}
+use Rattle.treebank.specs.Moves.{Label}
 use Rattle.treebank.specs.Tables.{arc, Good-table, good-table?, arc-between, table-arcs}
 use Rattle.treebank.specs.Trees.{_∈_, Heads}
 use Rattle.treebank.proofs.Said.{joining}
 use Rattle.treebank.proofs.Goodness.{good-exact, table-fits}
 use Rattle.guidance.specs.Viability.{Goes-on}
-use Rattle.list_based_theory.specs.Configurations.{Configuration, configuration, words, finished, emptied, last}
-use Rattle.list_based_theory.specs.Moves.{left-arc, right-arc, verdict, next, list-based}
+use Rattle.list_based_theory.specs.Configurations.{Configuration, words, finished, emptied, last}
+use Rattle.list_based_theory.specs.Moves.{left-arc, right-arc, list-based}
 use Rattle.list_based_theory.specs.Advice.{joins-before, pass-advice, right-advice, left-advice, list-advice, advice}
 use Rattle.list_based_theory.specs.Viable.{low, high, Viable}
 use Rattle.list_based_theory.proofs.Kept.{Kept}

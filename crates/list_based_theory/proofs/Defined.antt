@@ -2,7 +2,7 @@
 use mathlib.Core.Path.{_≡_, refl, sym, ap, subst, _∙_}
 use mathlib.Core.Logic.{_⊎_, inl, inr}
 use mathlib.Core.List.{List, [], _∷_, _++_, reverse}
-use mathlib.Core.Bool.{Bool, true, false, cond}
+use mathlib.Core.Bool.{false}
 use Prim.Native.Nat.{ℕ, zero, suc, _+_, _-_, _≤_, _<_}
 use native.Mathlib.Omega.{arith}
 use lib.ListN.{length}
@@ -18,11 +18,11 @@ use Rattle.treebank.specs.declared.moves.Move.{Move}
 use Rattle.treebank.specs.declared.moves.Move.the-variants.{Shift, LeftArc, RightArc, NoArc}
 use Rattle.treebank.specs.declared.rows.Row.{Row}
 use Rattle.treebank.specs.Tables.{arc, table-arcs}
-use Rattle.treebank.specs.Trees.{Above, Fresh, Same-arcs}
+use Rattle.treebank.specs.Trees.{Above, Fresh}
 use Rattle.transition.specs.Meaning.{Verdict}
 use Rattle.transition.specs.Verdicts.{drawn}
 use Rattle.transition.specs.Runs.{Arises}
-use Rattle.arc_store.specs.Drawing.{arc-verdict, put}
+use Rattle.arc_store.specs.Drawing.{put}
 use Rattle.arc_store.proofs.Freshness.{fresh-verdict}
 use Rattle.arc_store.proofs.Putting.{put-length, put-fresh}
 use Rattle.arc_store.proofs.Verdicts.{impossible}
@@ -112,7 +112,7 @@ not-empty : (i : ℕ) (β : List ℕ) → _≡_ {A = List ℕ} [] (i ∷ β) →
 not-empty i β e = let z : _≡_ {A = ℕ} 0 1 = cc in omega arith
 
 -- a buffer with a first word
-pub buffer-first : (c : Configuration) (j : ℕ) (β : List ℕ) → j ∷ β ≡ counting (c .front) (words c + 1 - c .front) → (c .front ≤ words c) × (j ≡ c .front)
+buffer-first : (c : Configuration) (j : ℕ) (β : List ℕ) → j ∷ β ≡ counting (c .front) (words c + 1 - c .front) → (c .front ≤ words c) × (j ≡ c .front)
 buffer-first c j β e = at (cases-lt (words c) (c .front))
   where
     at : (words c < c .front) ⊎ (c .front ≤ words c) → (c .front ≤ words c) × (j ≡ c .front)

@@ -1,10 +1,10 @@
 -- At the start the viable tables are the forests.
-use mathlib.Core.Path.{_≡_, refl, sym, ap, subst, _∙_}
-use mathlib.Core.Logic.{_⊎_, inl, inr, _↔_}
+use mathlib.Core.Path.{sym, subst}
+use mathlib.Core.Logic.{_⊎_, inl, inr}
 use mathlib.Core.List.{List, List·Memᴰ·not-nil}
-use Prim.Native.Nat.{ℕ, _+_, _-_, _≤_, _<_, min, max}
+use Prim.Native.Nat.{ℕ, _≤_, _<_}
 use native.Mathlib.Omega.{arith}
-use lib.ListN.{length, length-replicate}
+use lib.ListN.{length-replicate}
 use Rattle.std.proofs.shelf.Tests.{cases-lt}
 use Rattle.treebank.specs.declared.arcs.Arc.{Arc}
 use Rattle.treebank.specs.declared.rows.Row.{Row}
@@ -17,9 +17,8 @@ use Rattle.arc_store.specs.Drawing.{bare}
 use Rattle.arc_store.proofs.Putting.{none-drawn}
 use Rattle.guidance.proofs.Viably.{viable-reaches}
 use Rattle.list_based_theory.specs.Configurations.{start}
-use Rattle.list_based_theory.specs.Moves.{list-based}
 use Rattle.list_based_theory.specs.Classes.{Reaches-forests}
-use Rattle.list_based_theory.specs.Viable.{low, high, Ahead, Viable}
+use Rattle.list_based_theory.specs.Viable.{high, Ahead, Viable}
 use Rattle.list_based_theory.proofs.Lawful.{lawful}
 use Rattle.list_based_theory.proofs.Reached.{viability}
 

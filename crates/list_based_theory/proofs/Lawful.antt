@@ -1,21 +1,18 @@
 -- The list-based system keeps the laws.
-use mathlib.Core.Path.{_≡_, refl, sym, ap, subst, _∙_}
+use mathlib.Core.Path.{_≡_, refl, sym, ap, _∙_}
 use mathlib.Core.Logic.{_↔_}
-use mathlib.Core.List.{List}
-use mathlib.Core.Bool.{Bool, true, false, cond}
-use Prim.Native.Nat.{ℕ, _+_, _-_, _*_, _≤_, _<_}
+use mathlib.Core.Bool.{true, false, cond}
+use Prim.Native.Nat.{ℕ, _+_, _-_, _≤_, _<_}
 use native.Mathlib.Omega.{arith}
-use lib.ListN.{length, length-replicate}
+use lib.ListN.{length-replicate}
 use Rattle.std.proofs.shelf.Tests.{both-ways, true≢false}
 use Rattle.std.specs.declared.option.Option.{Option}
-use Rattle.std.specs.declared.option.Option.the-variants.{Some}
 use Rattle.std.specs.declared.result.Result.the-variants.{Ok, Err}
 use Rattle.treebank.specs.declared.arcs.Arc.{Arc}
 use Rattle.treebank.specs.declared.moves.Move.{Move}
 use Rattle.treebank.specs.declared.moves.Move.the-variants.{Shift, LeftArc, RightArc, Reduce, NoArc}
-use Rattle.treebank.specs.declared.rows.Row.{Row}
 use Rattle.treebank.specs.declared.refusals.Refusal.the-variants.{Finished, TooFewNodes}
-use Rattle.treebank.specs.Tables.{arc, arc-into, table-arcs}
+use Rattle.treebank.specs.Tables.{arc, arc-into}
 use Rattle.transition.specs.declared.faults.Fault.{Fault}
 use Rattle.transition.specs.Meaning.{Verdict}
 use Rattle.transition.specs.Verdicts.{refused}
@@ -23,7 +20,7 @@ use Rattle.transition.specs.Laws.{Begins, Draws, Foreign, Laws}
 use Rattle.arc_store.specs.Drawing.{bare}
 use Rattle.arc_store.proofs.Putting.{put-length, put-fresh, none-drawn}
 use Rattle.arc_store.proofs.Verdicts.{impossible, passed, told-arc, Usual, usual-test, usual-arc, not-foreign, usual-level, foreign-level}
-use Rattle.list_based_theory.specs.Configurations.{Configuration, configuration, words, start, finished, emptied, ceiling, remaining}
+use Rattle.list_based_theory.specs.Configurations.{Configuration, words, start, finished, emptied, ceiling, remaining}
 use Rattle.list_based_theory.specs.Moves.{own, left-arc, right-arc, verdict, next, list-based}
 use Rattle.list_based_theory.proofs.Accepted.{Makes, makes}
 use Rattle.list_based_theory.proofs.Kept.{Kept, kept, ceiling-up}

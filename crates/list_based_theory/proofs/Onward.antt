@@ -1,15 +1,14 @@
 -- The way on from a viable configuration: an arc of the table between the two nodes is drawn, or they are apart.
-use mathlib.Core.Path.{_≡_, refl, sym, ap, subst, _∙_}
+use mathlib.Core.Path.{_≡_, sym, ap, subst, _∙_}
 use mathlib.Core.Logic.{_⊎_, inl, inr}
-use mathlib.Core.List.{List, [], _∷_, List·Memᴰ·head, List·Memᴰ·tail, List·Memᴰ·cases-cons}
-use Prim.Native.Nat.{ℕ, _+_, _-_, _≤_, _<_, min, max}
+use mathlib.Core.List.{List, _∷_, List·Memᴰ·head, List·Memᴰ·tail, List·Memᴰ·cases-cons}
+use Prim.Native.Nat.{ℕ, _+_, _≤_, _<_}
 use native.Mathlib.Omega.{arith}
-use lib.ListN.{length}
 use Rattle.std.proofs.shelf.Tests.{cases-eq}
 use Rattle.treebank.specs.declared.arcs.Arc.{Arc}
 use Rattle.treebank.specs.declared.rows.Row.{Row}
 use Rattle.treebank.specs.Tables.{arc, Good-table, table-arcs}
-use Rattle.treebank.specs.Trees.{_∈_, Heads, Above, Acyclic, Fresh}
+use Rattle.treebank.specs.Trees.{_∈_, Heads, Acyclic, Fresh}
 use Rattle.treebank.proofs.Said.{table-single}
 use Rattle.treebank.proofs.Ways.{above-sub, no-way-back, no-loop, no-pair}
 use Rattle.treebank.proofs.Goodness.{table-fits}

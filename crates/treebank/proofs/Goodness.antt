@@ -2,18 +2,17 @@
 use mathlib.Core.Path.{_≡_, refl, sym, ap, subst, _∙_}
 use mathlib.Core.Logic.{_⊎_, inl, inr, _↔_}
 use mathlib.Core.List.{List, [], _∷_}
-use mathlib.Core.Bool.{Bool, true, false, cond, _&&_, _||_}
-use Prim.Native.Nat.{ℕ, zero, suc, _+_, _-_, _≤_, _<_}
+use mathlib.Core.Bool.{Bool, true, false, cond, _&&_}
+use Prim.Native.Nat.{ℕ, zero, suc, _-_, _≤_}
 use native.Mathlib.Omega.{arith}
 use lib.ListN.{length}
 use lib.Dec.{eqb, leb}
 use Rattle.std.proofs.shelf.Tests.{eqb-true, eqb-false, eq-eqb, ne-eqb, leb-true, le-leb, and-parts, and-from, or-cases, or-left, or-right, cond-false}
-use Rattle.std.specs.declared.option.Option.{Option}
 use Rattle.std.specs.declared.option.Option.the-variants.{Some, None}
 use Rattle.treebank.specs.declared.arcs.Arc.{Arc}
 use Rattle.treebank.specs.declared.rows.Row.{Row}
 use Rattle.treebank.specs.Moves.{Label}
-use Rattle.treebank.specs.Tables.{arc, Headless, Good-row, All-rows, Good-table, good-row?, good-rows?, good-table?, row-at, row-arc, arc-into, table-arcs}
+use Rattle.treebank.specs.Tables.{arc, Headless, Good-row, All-rows, Good-table, good-row?, good-rows?, good-table?, row-at, row-arc, table-arcs}
 use Rattle.treebank.specs.Trees.{_∈_, Heads, Joins}
 use Rattle.treebank.proofs.Said.{into-row, into-mem, mem-into, table-words}
 

@@ -1,16 +1,16 @@
 -- What the projectivity test has seen when it answers.
-use mathlib.Core.Path.{_≡_, refl, sym, ap, subst, _∙_}
+use mathlib.Core.Path.{_≡_, refl, sym, subst}
 use mathlib.Core.Logic.{_↔_}
 use mathlib.Core.List.{List}
-use mathlib.Core.Bool.{Bool, true, false}
-use Prim.Native.Nat.{ℕ, _≤_, _<_}
+use mathlib.Core.Bool.{true, false}
+use Prim.Native.Nat.{ℕ, _≤_}
 use native.Mathlib.Omega.{arith}
 use lib.ListN.{length}
 use Rattle.std.specs.declared.option.Option.the-variants.{Some}
 use Rattle.treebank.specs.declared.arcs.Arc.{Arc}
 use Rattle.treebank.specs.declared.rows.Row.{Row}
 use Rattle.treebank.specs.Tables.{Good-row, All-rows, Good-table, arc-into, table-arcs}
-use Rattle.treebank.specs.Trees.{_∈_, Covered, Projective}
+use Rattle.treebank.specs.Trees.{Covered, Projective}
 use Rattle.treebank.proofs.Said.{mem-into, into-mem, table-words}
 
 module _ (w : List Row) where

@@ -12,8 +12,8 @@ use Rattle.std.specs.declared.option.Option.{Option}
 use Rattle.std.specs.declared.option.Option.the-variants.{Some, None}
 use Rattle.treebank.specs.declared.arcs.Arc.{Arc}
 use Rattle.treebank.specs.declared.rows.Row.{Row}
-use Rattle.treebank.specs.Tables.{row, arc, row-at, row-arc, arc-into, from-head, arc-between, with-arc, arcs-from, table-arcs}
-use Rattle.treebank.specs.Trees.{_∈_, Heads, Single-headed, Joining}
+use Rattle.treebank.specs.Tables.{arc, row-at, row-arc, arc-into, from-head, arc-between, with-arc, arcs-from, table-arcs}
+use Rattle.treebank.specs.Trees.{_∈_, Single-headed, Joining}
 
 -- the row at place k says the arc, where the first row is of word d
 abbrev Says : ℕ → List Row → Arc → Type 0

@@ -7,7 +7,6 @@ use Rattle.std.specs.declared.option.Option.{Option}
 use Rattle.std.specs.declared.option.Option.the-variants.{Some, None}
 use Rattle.treebank.specs.declared.arcs.Arc.{Arc}
 use Rattle.treebank.specs.declared.rows.Row.{Row}
-use Rattle.treebank.specs.Moves.{Label}
 use Rattle.treebank.specs.Tables.{arc, Headless, All-rows, table-arcs}
 
 infix 40 _∈_

@@ -1,5 +1,3 @@
-use mathlib.Core.Path.{_≡_}
-use Prim.Native.Nat.{ℕ, _≤_}
 use Rattle.guidance.specs.Building.{Agrees}
 use Rattle.guidance.proofs.building.has_arcs.Given as given
 

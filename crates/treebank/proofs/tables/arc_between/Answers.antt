@@ -1,8 +1,4 @@
-use mathlib.Core.Path.{_≡_}
-use Rattle.std.specs.declared.option.Option.{Option}
 use Rattle.std.specs.declared.option.Option.the-variants.{Some, None}
-use Rattle.treebank.specs.declared.arcs.Arc.{Arc}
-use Rattle.treebank.specs.Tables.{arc-between}
 use Rattle.treebank.proofs.Said.{joining, between-none, between-here, between-other}
 use Rattle.treebank.proofs.tables.arc_between.Needs as need
 

@@ -1,8 +1,8 @@
 use mathlib.Core.Path.{_≡_, sym, ap, _∙_}
 use mathlib.Core.List.{reverse}
-use Prim.Native.Nat.{ℕ, _-_, _<_, _≤_}
+use Prim.Native.Nat.{ℕ, _-_}
 use native.Mathlib.Omega.{arith}
-use lib.ListN.{length, take}
+use lib.ListN.{take}
 use Rattle.arc_eager_theory.specs.Advice.{joins-any}
 use Rattle.arc_eager.proofs.Stacked.{in-room, popped, joined-none, joined-some}
 use Rattle.arc_eager.proofs.system.ArcEager.joins_deeper.Needs as need

@@ -1,4 +1,4 @@
-use mathlib.Core.Path.{_≡_, refl, sym}
+use mathlib.Core.Path.{refl}
 use Rattle.std.proofs.shelf.Results.{err-from-errBy}
 use Rattle.arc_store.specs.Drawing.{rows-of}
 use Rattle.arc_eager.proofs.Same.{same-system}

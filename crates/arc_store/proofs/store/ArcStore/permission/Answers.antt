@@ -1,5 +1,5 @@
-use mathlib.Core.Path.{_≡_, refl, sym, ap, _∙_}
-use mathlib.Core.Bool.{true, false}
+use mathlib.Core.Path.{_≡_, sym, ap, _∙_}
+use mathlib.Core.Bool.{false}
 use native.Mathlib.Omega.{arith}
 use Prim.Native.Nat.{_≤_}
 use lib.ListN.{length}
@@ -7,7 +7,6 @@ use Rattle.std.specs.Options.{isSome}
 use Rattle.std.specs.declared.result.Result.{Result}
 use Rattle.std.specs.declared.result.Result.the-variants.{Ok, Err}
 use Rattle.treebank.specs.declared.arcs.Arc.{Arc}
-use Rattle.treebank.specs.declared.rows.Row.{Row}
 use Rattle.treebank.specs.declared.refusals.Refusal.{Refusal}
 use Rattle.treebank.specs.declared.refusals.Refusal.the-variants.{HasHead}
 use Rattle.treebank.specs.Tables.{arc-into}

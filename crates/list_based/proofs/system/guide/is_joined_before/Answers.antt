@@ -1,4 +1,4 @@
-use mathlib.Core.Path.{_≡_, sym}
+use mathlib.Core.Path.{sym}
 use native.Mathlib.Omega.{arith}
 use Rattle.list_based_theory.proofs.Joined.{before-more, before-found}
 use Rattle.list_based.proofs.system.guide.is_joined_before.Needs as need

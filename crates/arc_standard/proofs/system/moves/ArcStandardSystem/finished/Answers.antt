@@ -1,5 +1,4 @@
-use mathlib.Core.Path.{_≡_, sym}
-use mathlib.Core.Bool.{false}
+use mathlib.Core.Path.{sym}
 use native.Mathlib.Omega.{arith}
 use Rattle.std.proofs.shelf.Tests.{and-left}
 use Rattle.arc_standard_theory.specs.Configurations.{root-alone, emptied}

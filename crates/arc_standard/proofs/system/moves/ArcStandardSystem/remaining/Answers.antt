@@ -1,8 +1,6 @@
-use mathlib.Core.Path.{_≡_, sym, _∙_}
-use Prim.Native.Nat.{_+_, _-_, _*_}
+use mathlib.Core.Path.{_≡_, _∙_}
 use native.Mathlib.Omega.{arith}
 use lib.ListN.{length, take}
-use mathlib.Core.List.{reverse}
 use Rattle.std.proofs.shelf.Lists.{length-reverse, length-take-le}
 use Rattle.arc_standard.specs.Held.{stack-of}
 use Rattle.arc_standard.proofs.Stacked.{in-room}
