@@ -25,7 +25,7 @@ module _ (M : Meaning) (start : ℕ → M .Config) (Class : List Row → Type 0)
       record {
         good = b .good;
         class = reaches (length w) w small good .0 (ms, d, b .run, b .finished, b .same);
-        run = (d, b .run, b .finished, b .same) }
+        run = (d, b .follows, b .run, b .finished, b .same) }
 
   pub no-class : {S : Type 0} (conf : S → M .Config) (s : S) (e : BuildError) (t : S) → Not-built M conf start (Unit {0}) w s e t → Makes-not Class w e
   no-class conf s (Refused why) t (inl (many, f, same)) = inl (many, refusal-of why TooManyWords f)

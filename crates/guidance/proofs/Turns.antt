@@ -1,7 +1,7 @@
 -- One turn of following the advice.
 use mathlib.Core.Path.{_≡_, sym, subst, _∙_}
 use mathlib.Core.Logic.{inl, inr}
-use mathlib.Core.List.{List, [], _∷_, _++_}
+use mathlib.Core.List.{List, [], _∷_, _++_, append-assoc, append-nil}
 use mathlib.Core.Bool.{true, false}
 use Prim.Native.Nat.{ℕ, _≤_, _<_}
 use native.Mathlib.Omega.{arith}
@@ -22,6 +22,7 @@ use Rattle.transition.specs.Making.{Made}
 use Rattle.transition.proofs.Running.{run-join, run-one}
 use Rattle.transition.proofs.Ceilings.{words-kept}
 use Rattle.guidance.specs.Guides.{Guides, Leads, Within-reach}
+use Rattle.guidance.specs.Following.{Follows}
 use Rattle.guidance.specs.Building.{Agrees, Led, Built}
 use Rattle.guidance.proofs.Followed.{led-on, not-silent, finished-reaches}
 use Rattle.guidance.proofs.Compared.{agrees-same, same-agrees}
@@ -41,7 +42,10 @@ begun-at f g n k e i = λ t. e t (i t)
 
 module _ (M : Meaning) (start : ℕ → M .Config) (reliable : Type 0) (laws : Laws M start) (guides : reliable → Guides M start) (n : ℕ) (small : n ≤ 100) (w : List Row) (good : Good-table n w) where
   pub led-start : (c : M .Config) → c ≡ start n → Led M start reliable n w [] c
-  led-start c e = record { run = subst (Run M (start n) []) (sym e) Run.stay; still = λ r t. subst (λ (x : M .Config). Reaches M x w) (sym e) t }
+  led-start c e = record {
+      run = subst (Run M (start n) []) (sym e) Run.stay;
+      onward = λ {xs} {e = f} s. subst (λ (x : M .Config). Follows M w x xs f) e s;
+      still = λ r t. subst (λ (x : M .Config). Reaches M x w) (sym e) t }
 
   module _ (ms : List Move) (d : M .Config) (led : Led M start reliable n w ms d) where
     pub led-arises : Arises M start d
@@ -66,6 +70,8 @@ module _ (M : Meaning) (start : ℕ → M .Config) (reliable : Type 0) (laws : L
     pub led-further : M .finished d ≡ false → (m : Move) (a : Option Arc) (x : M .Config) → Some m ≡ M .advice d w → Proper m → M .verdict d m ≡ Ok a → x ≡ M .next d m → Led M start reliable n w (ms ++ m ∷ []) x
     led-further u m a x e p v i = record {
         run = subst (Run M (start n) (ms ++ m ∷ [])) (sym i) (run-join (led .run) (run-one p v));
+        onward = λ {xs} {e = f} s. subst (λ (ns : List Move). Follows M w (start n) ns f) (sym (append-assoc ms (m ∷ []) xs))
+            (led .onward (Follows.step u (sym e) p v (subst (λ (y : M .Config). Follows M w y xs f) i s)));
         still = λ r t. let (b, q, k, on) = led-on M d w m (asked r t u (Some m) e) in subst (λ (y : M .Config). Reaches M y w) (sym i) on }
 
     pub led-falls : (m : Move) (a : Option Arc) (x : M .Config) → M .verdict d m ≡ Ok a → x ≡ M .next d m → M .remaining x < M .remaining d
@@ -83,6 +89,7 @@ module _ (M : Meaning) (start : ℕ → M .Config) (reliable : Type 0) (laws : L
   pub led-built : Agrees M d (length w) w → Built M start w ms d
   led-built a = record {
       good = (small, good);
+      follows = subst (λ (ns : List Move). Follows M w (start (length w)) ns d) (append-nil ms) (led .onward (Follows.done e));
       run = led .run;
       finished = e;
       same = agrees-same laws d here w same-words (subst (λ (n : ℕ). Agrees M d n w) same-words a) }

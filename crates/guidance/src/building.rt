@@ -92,7 +92,7 @@ fn follow_to<S: Guided>(heap: Global, system: &mut S, words: WordCount, table: &
     }
 }
 
-/// Builds the table on a newly begun sentence by following the advice, and answers the moves.
+/// Builds the table on a newly begun sentence by following the advice, and answers the moves that it named.
 ///
 /// Refused are over 100 rows (`TooManyWords`), then a row that is not good (`BadRow`), which leave the system as it was;
 /// then a table that the advice does not lead to (`Unreachable`): where the advice is reliable, exactly one that cannot be
