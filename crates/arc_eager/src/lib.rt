@@ -1,4 +1,5 @@
 //! Arc-eager: Shift, Left-Arc, Right-Arc and Reduce over a stack and a buffer.
+#![tactic(auto)]
 
 pub mod building;
 pub mod system;

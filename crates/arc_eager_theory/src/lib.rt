@@ -1,3 +1,4 @@
 //! What arc-eager means, with the proofs of its laws, of its definition and of what it reaches.
 //!
 //! No code: the crate `arc_eager` keeps what is defined here, and its contracts name it.
+#![tactic(auto)]

@@ -1,4 +1,5 @@
 //! Arc-standard: Shift, Left-Arc and Right-Arc over a stack and a buffer.
+#![tactic(auto)]
 
 pub mod building;
 pub mod system;

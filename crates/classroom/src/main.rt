@@ -1,4 +1,5 @@
 //! Two pupils at two workbenches, each with a checkpoint standing, and one pouch for their tickets.
+#![tactic(auto)]
 
 mod lesson;
 mod scripts;

@@ -1,4 +1,5 @@
 //! Systems that advise: which move comes next on the way to a wanted table.
+#![tactic(auto)]
 
 pub mod building;
 pub mod errors;

@@ -1,4 +1,5 @@
 //! Layers: a rule over any system or layer, which then permits fewer arcs and is a system again.
+#![tactic(auto)]
 
 pub mod label_set;
 pub mod layer;

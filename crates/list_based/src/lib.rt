@@ -1,4 +1,5 @@
 //! The list-based system: Shift, Left-Arc, Right-Arc and No-Arc over two lists and a buffer.
+#![tactic(auto)]
 
 pub mod building;
 pub mod system;

@@ -1,4 +1,5 @@
 //! Plays a run sheet from standard input and prints an account of it.
+#![tactic(auto)]
 
 mod columns;
 mod telling;

@@ -1,4 +1,5 @@
 //! Requests to a workbench, one after the other, and what holds after each of them.
+#![tactic(auto)]
 
 pub mod kinds;
 

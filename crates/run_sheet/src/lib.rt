@@ -2,6 +2,7 @@
 //! it says two numbers from 0 to 255. The first line of a sheet says the system's number and the word count, and each
 //! further line says a move: its kind (00 Shift, 01 Left-Arc, 02 Right-Arc, 03 Reduce, 04 No-Arc) and its label, 00
 //! for a move without an arc.
+#![tactic(auto)]
 
 pub mod lines;
 pub mod playing;

@@ -1,4 +1,5 @@
 //! Serves any list of requests on a workbench, and says what holds after each of them.
+#![tactic(auto)]
 
 mod attending;
 pub mod guided;

@@ -1,4 +1,5 @@
 //! Sealed sentences, the run sheets that they write, and replay of a sheet on a workbench.
+#![tactic(auto)]
 
 pub mod replaying;
 pub mod sealed;

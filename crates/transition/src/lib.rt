@@ -1,4 +1,5 @@
 //! What a transition system is: its meaning, its laws, and what follows from them for every system.
+#![tactic(auto)]
 
 pub mod faults;
 pub mod making;

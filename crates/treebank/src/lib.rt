@@ -1,4 +1,5 @@
 //! What a dependency treebank is made of: moves, arcs, rows and tables, and why a call is refused.
+#![tactic(auto)]
 
 pub mod arcs;
 pub mod moves;

@@ -1,4 +1,5 @@
 //! The workbench: one sentence being annotated over a transition system, with its moves, undo, a checkpoint and derive.
+#![tactic(auto)]
 
 pub mod workbench;
 
