@@ -24,30 +24,30 @@ returns-in-Some g c =
       exact = λ r. led_exactly (g.met.S.System.laws s) (g.met.S.Guided.guides r s);
     }
 
-pub returns-in-Ok-follow-to : goal.returns-in-Ok-follow-to
-returns-in-Ok-follow-to g c =
+pub returns-in-Ok-follow_to : goal.returns-in-Ok-follow_to
+returns-in-Ok-follow_to g c =
     let s = c.args.system.now in
     let M = g.S.System.meaning in
     record {
-      built = subst (λ (st : ℕ → M.Config). Built M st c.args.table.now (vec_items c.in-Ok-follow-to.moves) (g.S.System.conf c.follow-to.new.system)) c.begin.ensures.alike c.in-Ok-follow-to.ensures.came;
-      alike = c.follow-to.ensures.alike ∙ c.begin.ensures.alike;
+      built = subst (λ (st : ℕ → M.Config). Built M st c.args.table.now (vec_items c.in-Ok-follow_to.moves) (g.S.System.conf c.follow_to.new.system)) c.begin.ensures.alike c.in-Ok-follow_to.ensures.came;
+      alike = c.follow_to.ensures.alike ∙ c.begin.ensures.alike;
       exact = λ r. led_exactly (g.met.S.System.laws s) (g.met.S.Guided.guides r s);
     }
 
-pub returns-in-Err-follow-to : goal.returns-in-Err-follow-to
-returns-in-Err-follow-to g c =
+pub returns-in-Err-follow_to : goal.returns-in-Err-follow_to
+returns-in-Err-follow_to g c =
     let s = c.args.system.now in
     let w = c.args.table.now in
     let M = g.S.System.meaning in
     let (few, e) = c.in-Ok.ensures in
-    let alike = c.follow-to.ensures.alike ∙ c.begin.ensures.alike in
+    let alike = c.follow_to.ensures.alike ∙ c.begin.ensures.alike in
     record {
       built = inr (inr (
         few,
-        counted_good w c.in-Ok.words.count e c.in-default.ensures,
-        subst (λ (st : ℕ → M.Config). Stuck M st g.S.Guided.reliable (length w) w c.in-Err-follow-to.error) c.begin.ensures.alike c.in-Err-follow-to.ensures.came,
-        c.begin-in-Err-follow-to.ensures.begun ∙ begun_at (g.S.System.start c.follow-to.new.system) (g.S.System.start s) c.in-Ok.words.count (length w) alike e,
+        counted_good w c.in-Ok.words.count e c.in_default.ensures,
+        subst (λ (st : ℕ → M.Config). Stuck M st g.S.Guided.reliable (length w) w c.in-Err-follow_to.error) c.begin.ensures.alike c.in-Err-follow_to.ensures.came,
+        c.begin-in-Err-follow_to.ensures.begun ∙ begun_at (g.S.System.start c.follow_to.new.system) (g.S.System.start s) c.in-Ok.words.count (length w) alike e,
       ));
-      alike = c.begin-in-Err-follow-to.ensures.alike ∙ alike;
+      alike = c.begin-in-Err-follow_to.ensures.alike ∙ alike;
       exact = λ r. led_exactly (g.met.S.System.laws s) (g.met.S.Guided.guides r s);
     }

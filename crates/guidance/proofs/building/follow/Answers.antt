@@ -16,28 +16,28 @@ pub loop-system-smaller : goal.loop-system-smaller
 loop-system-smaller g c =
     let s = c.args.system.now in
     let w = c.args.table.now in
-    let (p, v, i) = c.in-default-make-move.ensures.made in
+    let (p, v, i) = c.in_default-make_move.ensures.made in
     led_falls g.S.System.meaning (g.S.System.start s) g.S.Guided.reliable (g.met.S.System.laws s) (λ r. g.met.S.Guided.guides r s) (length w) c.requires.few w c.requires.good
-    (vec_items c.loop-system.moves) (g.S.System.conf c.loop-system.system) c.loop-system.invariant.0 c.in-Some.m c.in-default-make-move.field-0 (g.S.System.conf c.make-move.new.system) v i
+    (vec_items c.loop-system.moves) (g.S.System.conf c.loop-system.system) c.loop-system.invariant.0 c.in-Some.m c.in_default-make_move.field-0 (g.S.System.conf c.make_move.new.system) v i
 
 pub loop-system-preserved : goal.loop-system-preserved
 loop-system-preserved g c =
     let s = c.args.system.now in
     let w = c.args.table.now in
-    let (p, v, i) = c.in-default-make-move.ensures.made in
+    let (p, v, i) = c.in_default-make_move.ensures.made in
     let led = led_further g.S.System.meaning (g.S.System.start s) g.S.Guided.reliable (g.met.S.System.laws s) (λ r. g.met.S.Guided.guides r s) (length w) c.requires.few w c.requires.good
     (vec_items c.loop-system.moves) (g.S.System.conf c.loop-system.system) c.loop-system.invariant.0 (sym c.loop-system-test.ensures)
-    c.in-Some.m c.in-default-make-move.field-0 (g.S.System.conf c.make-move.new.system) c.in-Some.ensures.value p v i in (
-      subst (λ (ms : List Move). Led g.S.System.meaning (g.S.System.start s) g.S.Guided.reliable (length w) w ms (g.S.System.conf c.make-move.new.system)) (sym c.in-default-push.ensures.items) led,
-      c.make-move.ensures.alike ∙ c.loop-system.invariant.1,
+    c.in-Some.m c.in_default-make_move.field-0 (g.S.System.conf c.make_move.new.system) c.in-Some.ensures.value p v i in (
+      subst (λ (ms : List Move). Led g.S.System.meaning (g.S.System.start s) g.S.Guided.reliable (length w) w ms (g.S.System.conf c.make_move.new.system)) (sym c.in_default-push.ensures.items) led,
+      c.make_move.ensures.alike ∙ c.loop-system.invariant.1,
     )
 
-pub returns-in-default : goal.returns-in-default
-returns-in-default g c =
+pub returns-in_default : goal.returns-in_default
+returns-in_default g c =
     let s = c.args.system.now in
     let w = c.args.table.now in
     let stuck = led_silent g.S.System.meaning (g.S.System.start s) g.S.Guided.reliable (g.met.S.System.laws s) (λ r. g.met.S.Guided.guides r s) (length w) c.requires.few w c.requires.good
-    (vec_items c.loop-system.moves) (g.S.System.conf c.loop-system.system) c.loop-system.invariant.0 (sym c.loop-system-test.ensures) c.in-default.ensures.value in
+    (vec_items c.loop-system.moves) (g.S.System.conf c.loop-system.system) c.loop-system.invariant.0 (sym c.loop-system-test.ensures) c.in_default.ensures.value in
     record { came = (refl, stuck); alike = c.loop-system.invariant.1 }
 
 pub returns-in-Err : goal.returns-in-Err
@@ -46,8 +46,8 @@ returns-in-Err g c =
     let w = c.args.table.now in
     let stuck = led_refused g.S.System.meaning (g.S.System.start s) g.S.Guided.reliable (g.met.S.System.laws s) (λ r. g.met.S.Guided.guides r s) (length w) c.requires.few w c.requires.good
     (vec_items c.loop-system.moves) (g.S.System.conf c.loop-system.system) c.loop-system.invariant.0 (sym c.loop-system-test.ensures) c.in-Some.m c.in-Some.ensures.value
-    (λ a. refused_not g.S.System.meaning g.S.System.conf c.loop-system.system c.make-move.new.system c.in-Some.m c.in-Err.field-0 a c.in-Err.ensures.made) in
-    record { came = (refl, stuck); alike = c.make-move.ensures.alike ∙ c.loop-system.invariant.1 }
+    (λ a. refused_not g.S.System.meaning g.S.System.conf c.loop-system.system c.make_move.new.system c.in-Some.m c.in-Err.field-0 a c.in-Err.ensures.made) in
+    record { came = (refl, stuck); alike = c.make_move.ensures.alike ∙ c.loop-system.invariant.1 }
 
 pub returns : goal.returns
 returns g c = record { came = (c.loop-system.invariant.0, sym c.loop-system-test.ensures); alike = c.loop-system.invariant.1 }

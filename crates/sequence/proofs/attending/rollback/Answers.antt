@@ -7,10 +7,10 @@ use Rattle.requests.specs.declared.kinds.GuidedRequest.TheVariants.{Plain}
 use Rattle.sequence.proofs.Asked.{ticket_missing, ticket_spent, ticket_refused}
 use Rattle.sequence.proofs.attending.rollback.Goals as goal
 
-pub returns-in-default : goal.returns-in-default
-returns-in-default g c =
+pub returns-in_default : goal.returns-in_default
+returns-in_default g c =
     let s = state g.S.System.meaning g.S.System.conf g.S.System.start c.args.workbench.now in
-    let (none, same) = c.in-default.ensures in
+    let (none, same) = c.in_default.ensures in
     ticket_missing s c.args.pouch.now c.args.place (Plain (Rollback c.args.place)) rollback refl (λ a. refl) none c.take.new.pouch same
 
 pub returns-in-Ok : goal.returns-in-Ok

@@ -13,13 +13,13 @@ loop-i-preserved g c =
     let rs = c.args.requests.now in
     let s = state g.S.System.meaning g.S.System.conf g.S.System.start c.args.workbench.now in
     let t = state g.S.System.meaning g.S.System.conf g.S.System.start c.loop-i.workbench in
-    let u = state g.S.System.meaning g.S.System.conf g.S.System.start c.attend-guided.new.workbench in
+    let u = state g.S.System.meaning g.S.System.conf g.S.System.start c.attend_guided.new.workbench in
     let inside : c.loop-i.i < length rs = omega (arith, c.loop-i-test.true) in
     let room : c.loop-i.i < length c.loop-i.replies = omega (arith, c.requires, c.loop-i-test.true) in (
       (λ sound. (let going = c.loop-i.invariant.0 sound in
-          going_more s (epochs c.args.pouch.now) rs c.loop-i.i c.loop-i.replies t u (epochs c.loop-i.pouch) (epochs c.attend-guided.new.pouch) (Plain (Load 0 0)) c.attend-guided.result inside room
-          (c.attend-guided.ensures going.sound) going)),
-      drop-set-lt (length rs) c.loop-i.replies c.loop-i.i c.attend-guided.result inside ∙ c.loop-i.invariant.1,
+          going_more s (epochs c.args.pouch.now) rs c.loop-i.i c.loop-i.replies t u (epochs c.loop-i.pouch) (epochs c.attend_guided.new.pouch) (Plain (Load 0 0)) c.attend_guided.result inside room
+          (c.attend_guided.ensures going.sound) going)),
+      drop-set-lt (length rs) c.loop-i.replies c.loop-i.i c.attend_guided.result inside ∙ c.loop-i.invariant.1,
     )
 
 pub returns : goal.returns

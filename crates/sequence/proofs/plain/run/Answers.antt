@@ -18,10 +18,10 @@ returns g c =
     let x = c.args.system in
     let rs = plain c.args.requests.now in
     let new = state g.S.System.meaning g.S.System.conf g.S.System.start c.new-workbench.result in
-    let (served, later) = c.serve-each.ensures in (
+    let (served, later) = c.serve_each.ensures in (
       omega (arith, c.if-replies-requests.false),
-      ran_new ⊥ (g.met.S.System.laws x) (λ no_advice. absurd no_advice) new (epochs c.args.pouch.now) rs (take (length rs) c.serve-each.new.replies)
-          (state g.S.System.meaning g.S.System.conf g.S.System.start c.serve-each.new.workbench) (epochs c.serve-each.new.pouch)
+      ran_new ⊥ (g.met.S.System.laws x) (λ no_advice. absurd no_advice) new (epochs c.args.pouch.now) rs (take (length rs) c.serve_each.new.replies)
+          (state g.S.System.meaning g.S.System.conf g.S.System.start c.serve_each.new.workbench) (epochs c.serve_each.new.pouch)
           c.new-workbench.ensures.model c.new-workbench.ensures.same (served c.new-workbench.ensures.sound),
       later,
     )

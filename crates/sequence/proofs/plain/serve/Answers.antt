@@ -12,4 +12,4 @@ returns-then-replies-requests g c =
 pub returns : goal.returns
 returns g c =
     let long : length (plain c.args.requests.now) ≡ length c.args.requests.now = length-map c.args.requests.now Plain in
-    (omega (arith, c.if-replies-requests.false), c.serve-each.ensures)
+    (omega (arith, c.if-replies-requests.false), c.serve_each.ensures)

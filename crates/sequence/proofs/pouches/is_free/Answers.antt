@@ -6,4 +6,4 @@ pub returns-then-place-pouch : goal.returns-then-place-pouch
 returns-then-place-pouch c = free_past c.args.pouch.now c.args.place (omega arith)
 
 pub returns : goal.returns
-returns c = free_at c.args.pouch.now c.args.place c.if-place-pouch.false c.is-none.result c.is-none.ensures
+returns c = free_at c.args.pouch.now c.args.place c.if-place-pouch.false c.is_none.result c.is_none.ensures

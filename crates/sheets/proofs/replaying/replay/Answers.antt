@@ -8,18 +8,18 @@ pub returns-in-Ok : goal.returns-in-Ok
 returns-in-Ok g c sound =
     let M = g.S.System.meaning in
     let s = state M g.S.System.conf g.S.System.start c.args.workbench.now in
-    let t = state M g.S.System.conf g.S.System.start c.replay-lines.new.workbench in
-    let new = sym c.expect-new.ensures ∙ located_ok 0 c.expect-new.result tt c.in-ok-at-line.ensures in
-    let head = sym c.expect-heading.ensures ∙ located_ok 1 c.expect-heading.result tt c.in-ok-at-line-2.ensures in
+    let t = state M g.S.System.conf g.S.System.start c.replay_lines.new.workbench in
+    let new = sym c.expect_new.ensures ∙ located_ok 0 c.expect_new.result tt c.in_ok-at_line.ensures in
+    let head = sym c.expect_heading.ensures ∙ located_ok 1 c.expect_heading.result tt c.in_ok-at_line-2.ensures in
     accepted_lines s c.args.sheet.now new head c.in-Ok.moves t (c.in-Ok.ensures sound)
 
 pub returns-in-Err : goal.returns-in-Err
 returns-in-Err g c sound =
     let M = g.S.System.meaning in
     let s = state M g.S.System.conf g.S.System.start c.args.workbench.now in
-    let t = state M g.S.System.conf g.S.System.start c.replay-lines.new.workbench in
+    let t = state M g.S.System.conf g.S.System.start c.replay_lines.new.workbench in
     let u = state M g.S.System.conf g.S.System.start c.reload.new.workbench in
-    let new = sym c.expect-new.ensures ∙ located_ok 0 c.expect-new.result tt c.in-ok-at-line.ensures in
-    let head = sym c.expect-heading.ensures ∙ located_ok 1 c.expect-heading.result tt c.in-ok-at-line-2.ensures in
+    let new = sym c.expect_new.ensures ∙ located_ok 0 c.expect_new.result tt c.in_ok-at_line.ensures in
+    let head = sym c.expect_heading.ensures ∙ located_ok 1 c.expect_heading.result tt c.in_ok-at_line-2.ensures in
     let lines = c.in-Err.ensures sound in
     refused_lines s c.args.sheet.now new head c.in-Err.fault t u c.reload.ensures.0 sound lines (c.reload.ensures.1 lines.1.sound)

@@ -18,31 +18,31 @@ use Rattle.sheets.proofs.replaying.replay_lines.Goals as goal
 behind : (p : ℕ) (text : List ℕ) → take (length text - p) (drop p text) ≡ drop p text
 behind p text = take_all (length text - p) (drop p text) (omega (arith, length-drop p text))
 
-pub returns-in-err-m : goal.returns-in-err-m
-returns-in-err-m g c sound =
+pub returns-in_err-m : goal.returns-in_err-m
+returns-in_err-m g c sound =
     let M = g.S.System.meaning in
     let s = state M g.S.System.conf g.S.System.start c.args.workbench.now in
     let t = state M g.S.System.conf g.S.System.start c.loop-place.workbench in
     let p = c.loop-place.place in
     let text = c.args.sheet.now in
-    let (f, e, told) = passed_on (p / 5 + 1) c.said_move.result c.in-err-m.field-0.0 c.from-residual.result c.in-err-m.ensures c.from-residual.ensures.1 in
+    let (f, e, told) = passed_on (p / 5 + 1) c.said_move.result c.in_err-m.field-0.0 c.from_residual.result c.in_err-m.ensures c.from_residual.ensures.1 in
     let (why, said, is) = faulted_err (move_said (drop p text)) f (ap (λ (x : List ℕ). faulted (move_said x)) (sym (behind p text)) ∙ sym c.said_move.ensures ∙ e) in
-    let all : c.from-residual.result ≡ Err (at_line (p / 5 + 1) _) = told ∙ ap (λ (x : Fault). Err (at_line (p / 5 + 1) x)) (sym is) in
+    let all : c.from_residual.result ≡ Err (at_line (p / 5 + 1) _) = told ∙ ap (λ (x : Fault). Err (at_line (p / 5 + 1) x)) (sym is) in
     subst (λ (r : Result ℕ SheetFault). LinesTold M s text r t) (sym all) (going_unsaid s text p t c.loop-place-test.true (c.loop-place.invariant sound) why said)
 
-pub returns-in-err-at-line : goal.returns-in-err-at-line
-returns-in-err-at-line g c sound =
+pub returns-in_err-at_line : goal.returns-in_err-at_line
+returns-in_err-at_line g c sound =
     let M = g.S.System.meaning in
     let s = state M g.S.System.conf g.S.System.start c.args.workbench.now in
     let t = state M g.S.System.conf g.S.System.start c.loop-place.workbench in
     let u = state M g.S.System.conf g.S.System.start c.step.new.self in
     let p = c.loop-place.place in
     let text = c.args.sheet.now in
-    let m = c.in-ok-m.m in
+    let m = c.in_ok-m.m in
     let going = c.loop-place.invariant sound in
     let said = faulted_ok (move_said (drop p text)) m
-    (ap (λ (x : List ℕ). faulted (move_said x)) (sym (behind p text)) ∙ sym c.said_move.ensures ∙ located_ok (p / 5 + 1) c.said_move.result m c.in-ok-m.ensures) in
-    let (f, e, told) = passed_on (p / 5 + 1) c.step.result c.in-err-at-line.field-0.0 c.from-residual-in-err-at-line.result c.in-err-at-line.ensures c.from-residual-in-err-at-line.ensures.1 in
+    (ap (λ (x : List ℕ). faulted (move_said x)) (sym (behind p text)) ∙ sym c.said_move.ensures ∙ located_ok (p / 5 + 1) c.said_move.result m c.in_ok-m.ensures) in
+    let (f, e, told) = passed_on (p / 5 + 1) c.step.result c.in_err-at_line.field-0.0 c.from_residual-in_err-at_line.result c.in_err-at_line.ensures c.from_residual-in_err-at_line.ensures.1 in
     let served = subst (λ (r : Result (Option Arc) Fault). Served M t (step m) (answer_of (λ _. Made 1) r) u) e (c.step.ensures.served going.kept.sound) in
     subst (λ (r : Result ℕ SheetFault). LinesTold M s text r u) (sym told) (going_refused s text p t c.loop-place-test.true going m said u f served)
 
@@ -54,11 +54,11 @@ loop-place-preserved g c sound =
     let u = state M g.S.System.conf g.S.System.start c.step.new.self in
     let p = c.loop-place.place in
     let text = c.args.sheet.now in
-    let m = c.in-ok-m.m in
+    let m = c.in_ok-m.m in
     let going = c.loop-place.invariant sound in
     let said = faulted_ok (move_said (drop p text)) m
-    (ap (λ (x : List ℕ). faulted (move_said x)) (sym (behind p text)) ∙ sym c.said_move.ensures ∙ located_ok (p / 5 + 1) c.said_move.result m c.in-ok-m.ensures) in
-    let e = located_ok (p / 5 + 1) c.step.result c.in-ok-at-line.field-0 c.in-ok-at-line.ensures in
+    (ap (λ (x : List ℕ). faulted (move_said x)) (sym (behind p text)) ∙ sym c.said_move.ensures ∙ located_ok (p / 5 + 1) c.said_move.result m c.in_ok-m.ensures) in
+    let e = located_ok (p / 5 + 1) c.step.result c.in_ok-at_line.field-0 c.in_ok-at_line.ensures in
     let served = subst (λ (r : Result (Option Arc) Fault). Served M t (step m) (answer_of (λ _. Made 1) r) u) e (c.step.ensures.served going.kept.sound) in
     going_more s text p t c.loop-place-test.true going m said u served
 
@@ -67,4 +67,4 @@ returns g c sound =
     let M = g.S.System.meaning in
     let s = state M g.S.System.conf g.S.System.start c.args.workbench.now in
     let t = state M g.S.System.conf g.S.System.start c.loop-place.workbench in
-    going_done s c.args.sheet.now c.loop-place.place c.move-count.result t c.loop-place-test.false c.move-count.ensures (c.loop-place.invariant sound)
+    going_done s c.args.sheet.now c.loop-place.place c.move_count.result t c.loop-place-test.false c.move_count.ensures (c.loop-place.invariant sound)

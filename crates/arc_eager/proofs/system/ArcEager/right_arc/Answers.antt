@@ -5,14 +5,14 @@ use Rattle.arc_eager.proofs.Same.{same_system}
 use Rattle.arc_eager.proofs.Steps.{right_refused, right_drawn}
 use Rattle.arc_eager.proofs.system.ArcEager.right_arc.Goals as goal
 
-pub returns-in-err-arc : goal.returns-in-err-arc
-returns-in-err-arc c =
+pub returns-in_err-arc : goal.returns-in_err-arc
+returns-in_err-arc c =
     let s = c.args.self.now in
-    let (v, e) = c.in-err-arc.ensures in
-    let p = err_from_is_err_and c.from-residual-in-err-arc.result c.from-residual-in-err-arc.ensures.1 in
-    rw (p.1, p.2) (right_refused s c.in-ok-unfinished.ensures c.args.label c.top-i.result c.top-i.ensures _ c.in-err-arc.field-0.0 v (same_system _ s refl refl refl e))
+    let (v, e) = c.in_err-arc.ensures in
+    let p = err_from_is_err_and c.from_residual-in_err-arc.result c.from_residual-in_err-arc.ensures.1 in
+    rw (p.1, p.2) (right_refused s c.in_ok-unfinished.ensures c.args.label c.top-i.result c.top-i.ensures _ c.in_err-arc.field-0.0 v (same_system _ s refl refl refl e))
 
 pub returns : goal.returns
 returns c =
-    let (same, v, e, kept) = c.in-ok-arc.ensures in
-    right_drawn c.args.self.now c.in-ok-unfinished.ensures c.args.label c.top-i.result c.top-i.ensures c.in-ok-arc.arc (rows_of c.draw.new.self) same v e
+    let (same, v, e, kept) = c.in_ok-arc.ensures in
+    right_drawn c.args.self.now c.in_ok-unfinished.ensures c.args.label c.top-i.result c.top-i.ensures c.in_ok-arc.arc (rows_of c.draw.new.self) same v e

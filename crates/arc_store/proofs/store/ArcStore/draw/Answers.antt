@@ -10,8 +10,8 @@ pub returns : goal.returns
 returns c =
     let s = c.args.self.now in
     let a = c.args.arc in
-    let b = c.in-ok-arc.arc in
-    let e : arc_verdict (rows_of s) a ≡ Ok b = sym c.in-ok-arc.ensures.answer in
+    let b = c.in_ok-arc.arc in
+    let e : arc_verdict (rows_of s) a ≡ Ok b = sym c.in_ok-arc.ensures.answer in
     let i : b ≡ a = verdict_same (rows_of s) a b e in (
       i,
       subst (λ (x : Arc). arc_verdict (rows_of s) a ≡ Ok x) i e,

@@ -4,10 +4,10 @@ use Rattle.list_based.proofs.Same.{same_system}
 use Rattle.list_based.proofs.Steps.{right_refused}
 use Rattle.list_based.proofs.system.ListBased.right_arc.Goals as goal
 
-pub returns-in-err-arc : goal.returns-in-err-arc
-returns-in-err-arc c =
+pub returns-in_err-arc : goal.returns-in_err-arc
+returns-in_err-arc c =
     let s = c.args.self.now in
-    let (some, at) = c.in-ok-i.ensures in
-    let (v, e) = c.in-err-arc.ensures in
-    let p = err_from_is_err_and c.from-residual-in-err-arc.result c.from-residual-in-err-arc.ensures.1 in
-    rw (p.1, p.2) (right_refused s _ c.in-ok-unfinished.ensures some c.args.label c.in-ok-i.i at c.in-err-arc.field-0.0 (same_system _ s refl refl refl e) v)
+    let (some, at) = c.in_ok-i.ensures in
+    let (v, e) = c.in_err-arc.ensures in
+    let p = err_from_is_err_and c.from_residual-in_err-arc.result c.from_residual-in_err-arc.ensures.1 in
+    rw (p.1, p.2) (right_refused s _ c.in_ok-unfinished.ensures some c.args.label c.in_ok-i.i at c.in_err-arc.field-0.0 (same_system _ s refl refl refl e) v)

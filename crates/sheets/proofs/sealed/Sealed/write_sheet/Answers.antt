@@ -10,11 +10,11 @@ returns g c =
     let bench = c.args.self.now.workbench in
     let s = state M g.S.System.conf g.S.System.start bench in
     let before = c.args.out.now in
-    let k : ℕ = 5 * (c.move-count-moves.result + 1) in
-    let bytes : k ≡ sheet_bytes (length (model_of bench).moves) = ap sheet_bytes c.move-count-moves.ensures in
-    let wrote : WroteSheet M.number (model_of bench) before (Ok k) c.write-lines.new.out = (
+    let k : ℕ = 5 * (c.move_count-moves.result + 1) in
+    let bytes : k ≡ sheet_bytes (length (model_of bench).moves) = ap sheet_bytes c.move_count-moves.ensures in
+    let wrote : WroteSheet M.number (model_of bench) before (Ok k) c.write_lines.new.out = (
       omega (arith, c.if-out-moves.false),
       bytes,
-      c.write-lines.ensures ∙ ap (λ (n : ℕ). sheet_text M.number (model_of bench).words (model_of bench).moves ++ drop n before) (sym bytes),
+      c.write_lines.ensures ∙ ap (λ (n : ℕ). sheet_text M.number (model_of bench).words (model_of bench).moves ++ drop n before) (sym bytes),
     ) in
-    record { wrote = wrote; back = wrote_back s before k c.write-lines.new.out (g.met.S.System.laws bench.system) wrote }
+    record { wrote = wrote; back = wrote_back s before k c.write_lines.new.out (g.met.S.System.laws bench.system) wrote }

@@ -10,5 +10,5 @@ returns c =
     let s = c.args.out.now in
     let l = written c.args.line in
     let k : 5 ≡ (p + 5) - p = omega arith in
-    put_mid-paste p ((p + 5) - p) s c.copy-from-slice.new.self l 5 (c.copy-from-slice.ensures.after ∙ c.text.ensures.is) k refl
+    put_mid-paste p ((p + 5) - p) s c.copy_from_slice.new.self l 5 (c.copy_from_slice.ensures.after ∙ c.text.ensures.is) k refl
     ∙ paste_all s p l 5 refl

@@ -13,10 +13,10 @@ returns g c = λ s.
     let start = g.S.System.start c.args.self.now.system in
     let b = state M g.S.System.conf g.S.System.start c.args.self.now in
     let n = c.args.words in
-    let (few, count) = c.in-ok-words.ensures in
-    let free : c.args.self.now.checkpoint ≡ None = c.in-default.is in
+    let (few, count) = c.in_ok-words.ensures in
+    let free : c.args.self.now.checkpoint ≡ None = c.in_default.is in
     let none : standing c.cut.new.self ≡ [] = c.cut.ensures in
-    let m : ◌≡◌ {A = Model} (record { words = c.in-ok-words.words.count; epoch = c.args.epoch; moves = standing c.cut.new.self; checkpoint = c.args.self.now.checkpoint })
+    let m : ◌≡◌ {A = Model} (record { words = c.in_ok-words.words.count; epoch = c.args.epoch; moves = standing c.cut.new.self; checkpoint = c.args.self.now.checkpoint })
     (record { words = n; epoch = c.args.epoch; moves = []; checkpoint = None }) =
     λ i. record { words = count i; epoch = c.args.epoch; moves = none i; checkpoint = free i } in
     served_ok b _ (load n c.args.epoch) Loaded (g.met.S.System.laws c.args.self.now.system) s

@@ -7,8 +7,8 @@ use Rattle.workbench.proofs.workbench.Workbench.write_rows.Goals as goal
 pub loop-word-preserved : goal.loop-word-preserved
 loop-word-preserved g c =
     let l : c.loop-word.word < length c.loop-word.rows = omega arith in
-    row_more g.S.System.meaning (g.S.System.conf c.args.self.now.system) c.args.rows.now c.loop-word.word c.loop-word.rows c.row-of.result l
-    (c.row-of.ensures ∙ ap row_of c.arc_into.ensures) c.loop-word.invariant.0 c.loop-word.invariant.1
+    row_more g.S.System.meaning (g.S.System.conf c.args.self.now.system) c.args.rows.now c.loop-word.word c.loop-word.rows c.row_of.result l
+    (c.row_of.ensures ∙ ap row_of c.arc_into.ensures) c.loop-word.invariant.0 c.loop-word.invariant.1
 
 pub returns : goal.returns
 returns g c =

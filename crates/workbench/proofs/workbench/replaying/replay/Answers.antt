@@ -4,7 +4,7 @@ use Rattle.history.specs.Standing.{standing}
 use Rattle.workbench_model.proofs.Serves.{run_again, nth_no_more}
 use Rattle.workbench.proofs.Calls.{again_from}
 use Rattle.workbench.proofs.workbench.replaying.replay.Goals as goal
-use Rattle.workbench.proofs.workbench.replaying.replay.Goals.{in-Some, in-default}
+use Rattle.workbench.proofs.workbench.replaying.replay.Goals.{in-Some, in_default}
 
 pub loop-i-init : goal.loop-i-init
 loop-i-init g c = (refl, λ d r. refl)
@@ -17,9 +17,9 @@ loop-i-preserved g c = elim c.match-get.branch [
         run_again g.S.System.meaning (λ _. w.step.new.self ≡ c.loop-i.system) c.loop-i.i w.in-Some.m w.step.result r
         (sym w.in-Some.ensures) (c.loop-i.invariant.1 d r) w.step.ensures.answer w.step.ensures.moved,
   )
-  | in-default w ↦ (
+  | in_default w ↦ (
     ap g.S.System.start w.system-is ∙ c.loop-i.invariant.0,
-    λ d r. ap g.S.System.conf w.system-is ∙ c.loop-i.invariant.1 d r ∙ ap (after g.S.System.meaning _) (sym (nth_no_more _ c.loop-i.i (sym w.in-default.ensures))),
+    λ d r. ap g.S.System.conf w.system-is ∙ c.loop-i.invariant.1 d r ∙ ap (after g.S.System.meaning _) (sym (nth_no_more _ c.loop-i.i (sym w.in_default.ensures))),
   )
 ]
 

@@ -12,7 +12,7 @@ pub returns : goal.returns
 returns c =
     let s = held c.args.self.now in
     let w = c.args.table.now in
-    let good : is_good_table (words s) w ≡ true = ap (λ (n : ℕ). is_good_table n w) (sym c.words.ensures) ∙ sym c.if-not-is-good-table.ensures.value in
+    let good : is_good_table (words s) w ≡ true = ap (λ (n : ℕ). is_good_table n w) (sym c.words.ensures) ∙ sym c.if-not-is_good_table.ensures.value in
     let e : c.left_advice.result ≡ advice s w =
     c.left_advice.ensures ∙ sym (cond-false (finished s) None _ (sym c.if-finished.ensures) ∙ cond-true (is_good_table (words s) w) _ None good) in
     record { value = e; leads = λ r within. advice_leads guides s w c.left_advice.result e within }

@@ -8,4 +8,4 @@ pub returns : goal.returns
 returns c =
     let s = c.args.self.now in
     let deep : length (stack_of s) ≡ s.depth = length-reverse (take s.depth s.stack) ∙ length-take-le s.depth s.stack (in_room s) in
-    omega (arith, c.saturating-sub.ensures, c.get.ensures, c.words.ensures)
+    omega (arith, c.saturating_sub.ensures, c.get.ensures, c.words.ensures)
