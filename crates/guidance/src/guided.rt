@@ -13,8 +13,8 @@ pub trait Guided: System {
 
     /// The move to make next for the wanted table, or none.
     fn advice(&self, table: &[Row]) -> Option<Move>
-        ensures value { result ≡ meaning.advice (conf self.now) table.now }
-        ensures leads { reliable → WithinReach meaning (start self.now) (conf self.now) table.now → Leads meaning (conf self.now) table.now result };
+        ensures value { result ≡ Self.meaning.advice (Self.conf self.now) table.now }
+        ensures leads { reliable → WithinReach Self.meaning (Self.start self.now) (Self.conf self.now) table.now → Leads Self.meaning (Self.conf self.now) table.now result };
 
-    ghost guides: { reliable → (s : Self) → Guides meaning (start s) };
+    ghost guides: { reliable → (s : Self) → Guides Self.meaning (Self.start s) };
 }
