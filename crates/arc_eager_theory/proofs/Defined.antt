@@ -19,7 +19,7 @@ use Rattle.arc_store.proofs.Freshness.{fresh_verdict}
 use Rattle.arc_store.proofs.Putting.{put_length, put_fresh}
 use Rattle.arc_store.proofs.Verdicts.{impossible}
 use Rattle.arc_eager_theory.specs.Configurations.{Configuration, configuration, words, start, finished, front}
-use Rattle.arc_eager_theory.specs.Moves.{left_arc, right_arc, verdict, next, arc_eager}
+use Rattle.arc_eager_theory.specs.Moves.{verdict, next, arc_eager}
 use Rattle.arc_eager_theory.specs.Nivre.{Triple, triple, Headed, Transition, shown, AsDefined}
 use Rattle.arc_eager_theory.proofs.Chains.{desc_below, above_mem}
 use Rattle.arc_eager_theory.proofs.Kept.{Permitted, permitted, Kept, kept, inside}

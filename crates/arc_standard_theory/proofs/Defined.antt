@@ -16,7 +16,7 @@ use Rattle.arc_store.specs.Drawing.{put}
 use Rattle.arc_store.proofs.Freshness.{fresh_verdict}
 use Rattle.arc_store.proofs.Putting.{put_length, put_fresh}
 use Rattle.arc_standard_theory.specs.Configurations.{Configuration, configuration, words, start, root_alone, finished, emptied}
-use Rattle.arc_standard_theory.specs.Moves.{left_arc, right_arc, verdict, next, arc_standard}
+use Rattle.arc_standard_theory.specs.Moves.{verdict, next, arc_standard}
 use Rattle.arc_standard_theory.specs.Nivre.{Triple, triple, Transition, shown, AsDefined}
 use Rattle.arc_standard_theory.proofs.Accepted.{Makes, makes}
 use Rattle.arc_store.proofs.Verdicts.{impossible}

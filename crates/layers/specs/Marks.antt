@@ -1,10 +1,9 @@
 -- The laws of Label-Set.
-use Rattle.std.specs.Prelude.{◌≡◌, ℕ, ◌-◌, Bool, true, false, cond, ◌&&◌, ◌⊎◌, ◌↔◌, List, [], ◌∷◌, Some, None, Option, ◌≢◌, nat_le, slice_index_or, refl}
-use Rattle.std.proofs.Common.{sym, ap, subst, inl, inr, arith}
+use Rattle.std.specs.Prelude.{◌≡◌, ℕ, ◌-◌, Bool, true, false, cond, ◌&&◌, ◌⊎◌, List, Some, None, ◌≢◌, nat_le, slice_index_or, refl}
+use Rattle.std.proofs.Common.{sym, subst, inl, inr, arith}
 use mathlib.Core.List.Memᴰ
 use Rattle.std.proofs.lemmas.Bool.{and_parts, and_from, leb-true, le-leb, cond-true}
 use Rattle.treebank.specs.declared.arcs.Arc.{Arc}
-use Rattle.treebank.specs.declared.refusals.Refusal.{Refusal}
 use Rattle.treebank.specs.declared.refusals.Refusal.TheVariants.{LabelNotInSet, ForeignMove}
 use Rattle.treebank.specs.Trees.{◌∈◌}
 use Rattle.layers_theory.specs.Rules.{RuleLaws}

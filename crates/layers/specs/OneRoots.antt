@@ -1,5 +1,5 @@
 -- The rule that at most one arc comes from the root.
-use Rattle.std.specs.Prelude.{◌≡◌, ℕ, zero, suc, Bool, true, false, cond, ◌&&◌, ◌||◌, List, Some, None, Option, ◌==◌}
+use Rattle.std.specs.Prelude.{◌≡◌, ℕ, zero, suc, Bool, false, cond, ◌&&◌, ◌||◌, List, Some, None, Option, ◌==◌}
 use Rattle.treebank.specs.declared.arcs.Arc.{Arc}
 use Rattle.treebank.specs.declared.refusals.Refusal.TheVariants.{SecondRootArc}
 use Rattle.treebank.specs.Trees.{◌∈◌}

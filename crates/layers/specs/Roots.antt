@@ -1,5 +1,5 @@
 -- The laws of One-Root.
-use Rattle.std.specs.Prelude.{◌≡◌, ℕ, zero, suc, ◌+◌, ◌<◌, ◌≤◌, Bool, true, false, cond, ◌&&◌, ◌⊎◌, List, [], ◌∷◌, Some, None, Option, ◌==◌, ◌≢◌, refl}
+use Rattle.std.specs.Prelude.{◌≡◌, ℕ, zero, suc, ◌+◌, ◌≤◌, Bool, true, false, cond, ◌&&◌, ◌⊎◌, List, ◌∷◌, Some, None, Option, ◌==◌, ◌≢◌, refl}
 use Rattle.std.proofs.Common.{sym, ap, subst, ◌∙◌, inl, inr, arith, add-one}
 use mathlib.Core.List.Memᴰ
 use Rattle.std.proofs.lemmas.Bool.{and_parts, and_cases, or_cases, or_from, or_left, or_right, eqb-true, eqb-false, eq-eqb, both_ways, cases_eq, cond-false}

@@ -1,5 +1,5 @@
 -- A rule over a system: the laws are kept, the advice still guides, and what is reached is what is reached below, less what the rule forbids.
-use Rattle.std.proofs.Common.{◌≡◌, ℕ, ◌≤◌, ◌⊎◌, ◌↔◌, List, [], ◌∷◌, Some, None, Ok, Err, Option, sym, refl, ◌∙◌, subst, inl, inr}
+use Rattle.std.proofs.Common.{◌≡◌, ℕ, ◌≤◌, ◌↔◌, List, ◌∷◌, Some, None, Ok, Option, sym, refl, subst}
 use mathlib.Core.List.Memᴰ
 use Rattle.treebank.specs.declared.arcs.Arc.{Arc}
 use Rattle.treebank.specs.declared.moves.Move.{Move}

@@ -4,7 +4,7 @@ use Rattle.treebank.specs.declared.arcs.Arc.{Arc}
 use Rattle.treebank.specs.declared.refusals.Refusal.{Refusal}
 use Rattle.treebank.specs.declared.refusals.Refusal.TheVariants.{ForeignMove}
 use Rattle.transition.specs.declared.faults.Fault.{Fault}
-use Rattle.transition.specs.Meaning.{Verdict, fault}
+use Rattle.transition.specs.Meaning.{Verdict}
 use Rattle.transition.specs.Laws.{Foreign}
 use Rattle.layers_theory.specs.Layers.{higher, unless_objected, ruled}
 

@@ -1,10 +1,10 @@
 -- The law of every sequence of requests.
-use Rattle.std.proofs.Common.{◌≡◌, ℕ, zero, suc, ◌+◌, List, [], ◌∷◌, length, take, Some, None, sym, refl, ap, ◌∙◌, subst, add-one, arith}
+use Rattle.std.proofs.Common.{◌≡◌, ℕ, zero, suc, ◌+◌, List, [], ◌∷◌, length, take, Some, sym, refl, ap, ◌∙◌, subst, add-one, arith}
 use Rattle.std.specs.List.{slice_get}
 use Rattle.transition.specs.Meaning.{Meaning}
 use Rattle.transition.specs.Laws.{Laws}
 use Rattle.guidance.specs.Guides.{Guides}
-use Rattle.workbench_model.specs.Models.{Model, Call, config}
+use Rattle.workbench_model.specs.Models.{Model, config}
 use Rattle.workbench_model.specs.Models.Call.{derive}
 use Rattle.workbench_model.specs.Serving.{serve}
 use Rattle.workbench_model.specs.Lasting.{Lawful, Tally, no_moves, Balanced, Led}
@@ -12,7 +12,6 @@ use Rattle.workbench_model.proofs.Kept.{new_lawful, serve_lawful, serve_balanced
 use Rattle.requests.specs.declared.kinds.GuidedRequest.{GuidedRequest}
 use Rattle.requests.specs.declared.kinds.GuidedRequest.TheVariants.{Derive}
 use Rattle.requests.specs.declared.kinds.Reply.{Reply}
-use Rattle.requests.specs.declared.kinds.Reply.TheVariants.{Answered, NoTicket, NoRoom}
 use Rattle.requests.specs.Desks.{Pouch, Desk, new_desk, Asked, asked, attend, reply, next_desk, replies, desk_after}
 use Rattle.requests.specs.Sequences.{count_reply, counted, Standing, model_at, SequenceLaw}
 

@@ -1,20 +1,19 @@
 -- No move changes which tickets lie in a pouch.
-use Rattle.std.proofs.Common.{◌≡◌, ℕ, Bool, true, false, cond, not, ◌&&◌, ◌||◌, eqb, ltb, List, [], ◌∷◌, set, is_some, Some, None, Option, sym, refl, ap, ◌∙◌, ap₂}
+use Rattle.std.proofs.Common.{◌≡◌, ℕ, Bool, true, false, cond, not, ◌||◌, ltb, List, [], ◌∷◌, set, is_some, Some, None, Option, refl, ap, ◌∙◌}
 use Rattle.std.specs.List.{slice_get}
 use Rattle.treebank.specs.declared.refusals.Refusal.TheVariants.{TooManyWords, CheckpointStands, NoSuchCheckpoint}
 use Rattle.transition.specs.declared.faults.Fault.{Fault}
 use Rattle.transition.specs.Meaning.{Meaning}
 use Rattle.workbench_model.specs.declared.answers.Answer.{Answer}
-use Rattle.workbench_model.specs.declared.answers.Answer.TheVariants.{Loaded, CheckpointSet, Committed, Removed}
+use Rattle.workbench_model.specs.declared.answers.Answer.TheVariants.{Loaded, CheckpointSet}
 use Rattle.workbench_model.specs.Models.{Model, Call}
 use Rattle.workbench_model.specs.Models.Call.{load, step, undo, checkpoint, commit, rollback, derive}
-use Rattle.workbench_model.specs.Serving.{refuse_if, refusal, report, change, unless, serve, does_fit}
-use Rattle.requests.specs.declared.kinds.Request.{Request}
+use Rattle.workbench_model.specs.Serving.{refuse_if, refusal, report, change, unless, does_fit}
 use Rattle.requests.specs.declared.kinds.Request.TheVariants.{Load, Step, Undo, Checkpoint, Commit, Rollback}
 use Rattle.requests.specs.declared.kinds.GuidedRequest.{GuidedRequest}
 use Rattle.requests.specs.declared.kinds.GuidedRequest.TheVariants.{Plain, Derive}
 use Rattle.requests.specs.declared.kinds.Reply.TheVariants.{Answered}
-use Rattle.requests.specs.Desks.{Pouch, Desk, for_ticket, for_place, attend, accepted, pouch_after, next_desk, desk_after}
+use Rattle.requests.specs.Desks.{Pouch, Desk, for_ticket, for_place, attend, accepted, next_desk, desk_after}
 use Rattle.requests.specs.Tickets.{Tickets, tickets_of, handed_out, handed_in, tickets_next, tickets_after}
 
 abbrev tickets : ℕ → Bool → Pouch → Tickets

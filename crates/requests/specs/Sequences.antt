@@ -15,7 +15,7 @@ use Rattle.requests.specs.declared.kinds.GuidedRequest.{GuidedRequest}
 use Rattle.requests.specs.declared.kinds.GuidedRequest.TheVariants.{Derive}
 use Rattle.requests.specs.declared.kinds.Reply.{Reply}
 use Rattle.requests.specs.declared.kinds.Reply.TheVariants.{Answered, NoTicket, NoRoom}
-use Rattle.requests.specs.Desks.{Pouch, Desk, new_desk, desk, replies, desk_after}
+use Rattle.requests.specs.Desks.{Pouch, new_desk, desk, replies, desk_after}
 use Rattle.requests.specs.Tickets.{tickets_of, tickets_after}
 
 -- the moves that the replies report made and removed since the last load

@@ -1,6 +1,5 @@
 -- Tickets in a pouch.
 use Rattle.std.specs.Prelude.{◌≡◌, ℕ, ◌<◌, Bool, true, false, ◌⊎◌, List, map, length, Some, None, Option, slice_index_or, slice_set}
-use Rattle.std.specs.Option.{option_map}
 use Rattle.std.specs.List.{slice_get}
 use Rattle.workbench.specs.declared.workbench.Ticket.{Ticket}
 use Rattle.requests.specs.Desks.{Pouch}

@@ -6,7 +6,7 @@ use Rattle.std.proofs.lemmas.Bool.{cases_order, ne_eqb, cond-false}
 use Rattle.treebank.specs.declared.arcs.Arc.{Arc}
 use Rattle.treebank.specs.declared.moves.Move.{Move}
 use Rattle.treebank.specs.declared.rows.Row.{Row}
-use Rattle.treebank.specs.Moves.{label, Label, Proper, ProperLabel}
+use Rattle.treebank.specs.Moves.{Label, Proper, ProperLabel}
 use Rattle.treebank.specs.Tables.{arc, row, row_at, row_arc, GoodRow, GoodTable, arc_into, table_arcs}
 use Rattle.treebank.specs.Trees.{◌∈◌, SameArcs, Joins}
 use Rattle.treebank.proofs.Said.{into_row}

@@ -2,10 +2,10 @@
 #![tactic(auto)]
 
 #[cfg(test)]
-mod layers;
-#[cfg(test)]
 mod moves;
 #[cfg(test)]
-mod sheets;
+mod run_sheets;
 #[cfg(test)]
 mod tables;
+#[cfg(test)]
+mod under_layers;

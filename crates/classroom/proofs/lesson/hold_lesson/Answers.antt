@@ -1,4 +1,4 @@
-use Rattle.std.proofs.Common.{◌≡◌, ℕ, Bool, true, false, [], ◌∷◌, Some, None, sym, refl, ap}
+use Rattle.std.proofs.Common.{ℕ, Bool, true, false, [], ◌∷◌, Some, None, sym, refl, ap}
 use Rattle.requests.specs.Desks.{Pouch}
 use Rattle.requests.specs.Tickets.{Tickets}
 use Rattle.requests.proofs.Pouches.{ran_tickets, served_tickets}

@@ -1,4 +1,4 @@
-use crate::layers::all_but;
+use crate::under_layers::all_but;
 use arc_standard::system::ArcStandard;
 use layers::layer::Layer;
 use sheets::replaying::replay;
