@@ -13,10 +13,10 @@ use workbench::workbench::{Ticket, Workbench};
 use workbench_model::answers::Answer;
 
 /// The reply to a call that was accepted with this answer, or refused.
-pub(crate) fn answered<T: Drop>(res: Result<T, Fault>, answer: Answer) -> Reply
-    ensures { result ≡ answered (answer_of (λ _. answer) res) }
+pub(crate) fn answered<T: Drop>(outcome: Result<T, Fault>, answer: Answer) -> Reply
+    ensures { result ≡ answered (answer_of (λ _. answer) outcome) }
 {
-    match res {
+    match outcome {
         Ok(_) => Reply::Answered(answer),
         Err(fault) => Reply::Answered(Answer::Refused(fault)),
     }

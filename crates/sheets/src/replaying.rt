@@ -17,10 +17,10 @@ use treebank::refusals::Refusal;
 use workbench::workbench::Workbench;
 
 /// The fault, if any, with the line where it was found.
-fn at_line<T>(line: usize, res: Result<T, Fault>) -> Result<T, (usize, Fault)>
-    ensures { result ≡ located line res }
+fn at_line<T>(line: usize, outcome: Result<T, Fault>) -> Result<T, (usize, Fault)>
+    ensures { result ≡ located line outcome }
 {
-    match res {
+    match outcome {
         Ok(value) => Ok(value),
         Err(fault) => Err((line, fault)),
     }

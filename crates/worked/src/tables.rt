@@ -27,10 +27,10 @@ pub(crate) fn answer(heap: Global, built: Result<Vec<Move>, BuildError>) -> Resu
                 text.push_str(format!(in heap; "{m}")?.as_str())?;
             }
         }
-        Err(BuildError::Refused(why)) => text.push_str(format!(in heap;
-            "refused {}",
-            why.number()
-        )?.as_str())?,
+        Err(BuildError::Refused(why)) => {
+            let number = why.number();
+            text.push_str(format!(in heap; "refused {number}")?.as_str())?;
+        }
         Err(BuildError::NoMemory) => text.push_str("no memory")?,
     }
     Ok(text)
