@@ -47,7 +47,7 @@ module _ {M : Meaning} {start : ℕ → M.Config} (laws : Laws M start) (c : M.C
       at (Some a) e None f =
           let (k, i, l, u) = told d (Some a) e in
           let g : None ≡ Some a = sym f ∙ ap (arc_into w) (sym i) ∙ mem_into w ((same a).0 k) in
-          absurd (let z : ◌≡◌ {A = ℕ} 0 1 = cc in omega arith)
+          cc
       at (Some a) e (Some b) f =
           let (k, i, l, u) = told d (Some a) e in
           sym (mem_into w ((same a).0 k)) ∙ ap (arc_into w) i ∙ f

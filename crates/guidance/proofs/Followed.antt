@@ -67,4 +67,4 @@ module _ (M : Meaning) (c : M.Config) (w : List Row) where
       (a, subst Proper e p, subst (λ (x : Move). M.verdict c x ≡ Ok a) e v, subst (λ (x : Move). Reaches M (M.next c x) w) e on)
 
   pub not_silent : Leads M c w None → ⊥
-  not_silent (m, a, s, p, v, on) = let z : ◌≡◌ {A = ℕ} 0 1 = cc in omega arith
+  not_silent (m, a, s, p, v, on) = cc

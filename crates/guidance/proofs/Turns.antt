@@ -1,10 +1,10 @@
 -- One turn of following the advice.
-use Rattle.std.proofs.Common.{◌≡◌, ℕ, ◌<◌, ◌≤◌, true, false, List, [], ◌∷◌, ◌++◌, length, Some, None, Ok, Err, Option, sym, ◌∙◌, subst, inl, inr, append_assoc, append-nil, arith}
+use Rattle.std.proofs.Common.{◌≡◌, ℕ, ◌<◌, ◌≤◌, true, false, List, [], ◌∷◌, ◌++◌, length, is_ok, Some, None, Ok, Err, Option, sym, ◌∙◌, subst, inl, inr, append_assoc, append-nil}
 use Rattle.treebank.specs.declared.arcs.Arc.{Arc}
 use Rattle.treebank.specs.declared.moves.Move.{Move}
 use Rattle.treebank.specs.declared.rows.Row.{Row}
 use Rattle.treebank.specs.Moves.{Proper}
-use Rattle.treebank.specs.Tables.{GoodRow, GoodTable, row_at}
+use Rattle.treebank.specs.Tables.{GoodTable}
 use Rattle.transition.specs.declared.faults.Fault.{Fault}
 use Rattle.transition.specs.Meaning.{Meaning, Verdict}
 use Rattle.transition.specs.Runs.{Run, Reaches, Arises}
@@ -18,18 +18,21 @@ use Rattle.guidance.specs.Building.{Agrees, Led, Built}
 use Rattle.guidance.proofs.Followed.{led_on, not_silent, finished_reaches}
 use Rattle.guidance.proofs.Compared.{agrees_same, same_agrees}
 
--- a move that was refused was not permitted
-pub refused_not : {S : Type 0} (M : Meaning) (conf : S → M.Config) (s t : S) (m : Move) (f : Fault) (a : Option Arc) → Made M conf s m (Err f) t → Proper m → M.verdict (conf s) m ≡ Ok a → ⊥
-refused_not M conf s t m f a (inl (n, e), same) p v = n p
-refused_not M conf s t m f a (inr (q, e), same) p v = let r : ◌≡◌ {A = Verdict} (Err f) (Ok a) = sym e ∙ v in let z : ◌≡◌ {A = ℕ} 0 1 = cc in omega arith
+module _ {S : Type 0} (M : Meaning) (conf : S → M.Config) (s t : S) (m : Move) where
+  -- a move that was refused was not permitted
+  pub refused_not : (f : Fault) (a : Option Arc) → Made M conf s m (Err f) t → Proper m → M.verdict (conf s) m ≡ Ok a → ⊥
+  refused_not f a (inl (n, e), same) p v = n p
+  refused_not f a (inr (q, e), same) p v = let r : ◌≡◌ {A = Verdict} (Err f) (Ok a) = sym e ∙ v in cc
 
--- a row that is not good spoils the table
-pub not_all : (w : List Row) (n i : ℕ) → n ≡ length w → i < length w → (GoodRow n (row_at w i) → ⊥) → GoodTable (length w) w → ⊥
-not_all w n i e inside bad good = bad (subst (λ (k : ℕ). GoodRow k (row_at w i)) (sym e) (good.good i inside))
+  -- the same, of an answer that is no Ok
+  pub not_permitted : (r : Verdict) → is_ok r ≡ false → Made M conf s m r t → (a : Option Arc) → Proper m → M.verdict (conf s) m ≡ Ok a → ⊥
+  not_permitted (Ok b) e made a p v = cc
+  not_permitted (Err f) e made a p v = refused_not f a made p v
 
--- the same start for the same count
-pub begun_at : {C : Type 0} (f g : ℕ → C) (n k : ℕ) → f ≡ g → n ≡ k → f n ≡ g k
-begun_at f g n k e i = λ t. e t (i t)
+  -- and of one that is
+  pub permitted : (r : Verdict) → is_ok r ≡ true → Made M conf s m r t → (a : Option Arc) × Proper m × (M.verdict (conf s) m ≡ Ok a) × (conf t ≡ M.next (conf s) m)
+  permitted (Ok a) e (p, v, i) = (a, p, v, i)
+  permitted (Err f) e made = cc
 
 module _ (M : Meaning) (start : ℕ → M.Config) (reliable : Type 0) (laws : Laws M start) (guides : reliable → Guides M start) (n : ℕ) (small : n ≤ 100) (w : List Row) (good : GoodTable n w) where
   pub led_start : (c : M.Config) → c ≡ start n → Led M start reliable n w [] c

@@ -15,23 +15,13 @@ use treebank::rows::Row;
 use treebank::tables::{arc_into, first_bad_row};
 use treebank::words::WordCount;
 
-/// Whether both are the same arc, or both none.
-fn is_same(a: Option<Arc>, b: Option<Arc>) -> bool
-    ensures { (result ≡ true) ↔ (a ≡ b) }
-{
-    match (a, b) {
-        (Some(a), Some(b)) => a.head == b.head && a.label == b.label && a.word == b.word,
-        (None, None) => true,
-        _ => false,
-    }
-}
-
 /// Whether the system has, into each word, the arc that the table has.
 pub fn has_arcs<S: System>(system: &S, words: WordCount, table: &[Row]) -> bool
     ensures { (result ≡ true) ↔ Agrees S.System.meaning (S.System.conf system.now) words.count table.now }
 {
-    for word in 0..words.get() {
-        if !is_same(system.arc_into(word + 1), arc_into(table, word + 1)) {
+    // A loop: of `all` over a range no short answer shows that it is about each word.
+    for word in 1..=words.get() {
+        if system.arc_into(word) != arc_into(table, word) {
             return false;
         }
     }
@@ -51,15 +41,9 @@ fn follow<S: Guided>(heap: Global, system: &mut S, table: &[Row]) -> Result<Vec<
 {
     let mut moves = Vec::new(heap);
     while !system.finished() {
-        let Some(m) = system.advice(table) else {
-            return Err(BuildError::Refused(Refusal::Unreachable));
-        };
-        if let Err(_) = make_move(system, m) {
-            return Err(BuildError::Refused(Refusal::Unreachable));
-        }
-        if let Err(_) = moves.push(m) {
-            return Err(BuildError::NoMemory);
-        }
+        let m = system.advice(table).ok_or(Refusal::Unreachable)?;
+        make_move(system, m).map_err(|_| Refusal::Unreachable)?;
+        moves.push(m)?;
     }
     Ok(moves)
 }
@@ -79,15 +63,11 @@ fn follow_to<S: Guided>(
         (λ e. Stuck S.System.meaning (S.System.start system.old) S.Guided.reliable (length table.now) table.now e) }
     ensures alike { S.System.start system.new ≡ S.System.start system.old }
 {
-    match follow(heap, system, table) {
-        Ok(moves) => {
-            if has_arcs(system, words, table) {
-                return Ok(moves);
-            }
-            Err(BuildError::Refused(Refusal::Unreachable))
-        }
-        Err(error) => Err(error),
+    let moves = follow(heap, system, table)?;
+    if !has_arcs(system, words, table) {
+        return Err(BuildError::from(Refusal::Unreachable));
     }
+    Ok(moves)
 }
 
 /// Builds the table on a newly begun sentence by following the advice, and answers the moves that it named.
@@ -106,19 +86,14 @@ pub fn build<S: Guided>(
     ensures alike { S.System.start system.new ≡ S.System.start system.old }
     ensures exact { S.Guided.reliable → LedExactly S.System.meaning (S.System.start system.old) }
 {
-    let words = match WordCount::new(table.len()) {
-        Ok(words) => words,
-        Err(why) => return Err(BuildError::Refused(why)),
-    };
-    if let Some(_) = first_bad_row(words, table) {
-        return Err(BuildError::Refused(Refusal::BadRow));
+    let words = WordCount::new(table.len())?;
+    if first_bad_row(words, table).is_some() {
+        return Err(BuildError::from(Refusal::BadRow));
     }
     system.begin(words);
-    match follow_to(heap, system, words, table) {
-        Ok(moves) => Ok(moves),
-        Err(error) => {
-            system.begin(words);
-            Err(error)
-        }
+    let built = follow_to(heap, system, words, table);
+    if built.is_err() {
+        system.begin(words);
     }
+    built
 }

@@ -1,10 +1,11 @@
 ghost use Rattle.std.specs.Prelude.{◌≡◌};
 
-use std::fmt;
+use thiserror::Error;
 use treebank::refusals::Refusal;
 
 /// A refused move: why, and the level that refused it; 0 is the system, each layer over it one more, 255 at most.
-#[derive(Clone, Copy, Debug)]
+#[derive(Clone, Copy, Debug, PartialEq, Eq, Error)]
+#[error("{} at level {level}: {refusal}", .refusal.number())]
 pub struct Fault {
     pub refusal: Refusal,
     pub level: u8,
@@ -16,14 +17,5 @@ impl From<Refusal> for Fault {
 
     fn from(refusal: Refusal) -> Fault {
         Fault { refusal, level: 0 }
-    }
-}
-
-impl fmt::Display for Fault {
-    fn fmt<W: fmt::Write>(&self, f: &mut fmt::Formatter<W>) -> fmt::Result {
-        let refusal = self.refusal;
-        let number = refusal.number();
-        let level = self.level;
-        write!(f, "{number} at level {level}: {refusal}")
     }
 }

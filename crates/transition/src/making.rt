@@ -18,10 +18,7 @@ pub fn make_move<S: System>(system: &mut S, m: Move) -> Result<Option<Arc>, Faul
     ensures theory { Theory S.System.meaning (S.System.start system.old) }
 {
     if !m.is_proper() {
-        return Err(Fault {
-            refusal: Refusal::BadLabel,
-            level: 0,
-        });
+        return Err(Fault::from(Refusal::BadLabel));
     }
     system.step(m)
 }

@@ -19,6 +19,7 @@ pub trait System {
     ghost start: { Self → ℕ → meaning.Config };
 
     /// Begins a sentence.
+    // `alike` stands wherever a system changes: it ties the new system to the old one, which no type can hold.
     fn begin(&mut self, words: WordCount)
         ensures begun { conf self.new ≡ start self.old words.count }
         ensures alike { start self.new ≡ start self.old };
@@ -49,7 +50,7 @@ pub trait System {
         ensures moved { MatchResult result (λ _. conf self.new ≡ meaning.next (conf self.old) m) (λ _. self.new ≡ self.old) }
         ensures alike { start self.new ≡ start self.old };
 
-    /// The system's number, as run sheets write it.
+    /// The system's number, as run sheets write it. Which systems there are is left open, so no enum lists them.
     fn number(&self) -> u8
         ensures { result ≡ meaning.number };
 

@@ -12,7 +12,7 @@ use Rattle.treebank.proofs.Said.{into_word, into_mem, mem_into, table_single, ta
 
 -- what the climb finds stands above
 pub climbs_above : (w : List Row) (x k y : ℕ) → climbs w x k y ≡ true → Above (table_arcs w) x y
-climbs_above w x zero y t = absurd (let z : ◌≡◌ {A = ℕ} 0 1 = cc in omega arith)
+climbs_above w x zero y t = cc
 climbs_above w x (suc k) y t = at (arc_into w y) refl t (climbs_above w x k)
   where
     here : (a : Arc) → a ∈ table_arcs w → a.word ≡ y → (eqb a.head x ≡ true) ⊎ (climbs w x k a.head ≡ true) → ((z : ℕ) → climbs w x k z ≡ true → Above (table_arcs w) x z) → Above (table_arcs w) x y
@@ -20,7 +20,7 @@ climbs_above w x (suc k) y t = at (arc_into w y) refl t (climbs_above w x k)
     here a m e (inr u) rest = subst (Above (table_arcs w) x) e (Above.more (rest a.head u) m)
 
     at : (o : Option Arc) → arc_into w y ≡ o → rise x (climbs w x k) o ≡ true → ((z : ℕ) → climbs w x k z ≡ true → Above (table_arcs w) x z) → Above (table_arcs w) x y
-    at None e t rest = absurd (let z : ◌≡◌ {A = ℕ} 0 1 = cc in omega arith)
+    at None e t rest = cc
     at (Some a) e t rest = here a (into_mem w y a e) (into_word w y a e).2 (or_cases (eqb a.head x) (climbs w x k a.head) t) rest
 
 -- a list of words without one of them
@@ -128,17 +128,8 @@ module _ (w : List Row) (x y n i : ℕ) (h : i < n) where
   climb_next : climbs w x (n - i) y ≡ rise x (climbs w x (n - (i + 1))) (arc_into w y)
   climb_next = ap (λ (k : ℕ). climbs w x k y) left_suc
 
-  pub climb_top : None ≡ arc_into w y → climbs w x (n - i) y ≡ false
-  climb_top e = climb_next ∙ ap (rise x (climbs w x (n - (i + 1)))) (sym e)
-
-  pub climb_here : (a : Arc) → Some a ≡ arc_into w y → a.head ≡ x → climbs w x (n - i) y ≡ true
-  climb_here a e f = climb_next ∙ ap (rise x (climbs w x (n - (i + 1)))) (sym e) ∙ or_left _ _ (eq-eqb _ _ f)
-
   pub climb_on : (a : Arc) → Some a ≡ arc_into w y → (a.head ≡ x → ⊥) → climbs w x (n - i) y ≡ climbs w x (n - (i + 1)) a.head
   climb_on a e f = climb_next ∙ ap (rise x (climbs w x (n - (i + 1)))) (sym e) ∙ ap (λ (b : Bool). b || climbs w x (n - (i + 1)) a.head) (ne_eqb _ _ f)
-
-pub climb_spent : (w : List Row) (x y n i : ℕ) → n ≤ i → climbs w x (n - i) y ≡ false
-climb_spent w x y n i h = let e : n - i ≡ 0 = omega arith in ap (λ (k : ℕ). climbs w x k y) e
 
 -- an answer that is the climb's tells what stands above
 pub told : (w : List Row) (x y : ℕ) (r : Bool) → r ≡ comes_to w x y → (r ≡ true) ↔ Above (table_arcs w) x y

@@ -42,12 +42,10 @@ not_good n w f = at (is_good_table n w) refl
     at true e = absurd (f ((good_exact n w).0 e))
     at false e = refl
 
--- an answer to whether the table is good
-pub told_yes : (n : ℕ) (w : List Row) → GoodTable n w → (true ≡ is_good_table n w) × ((true ≡ true) ↔ GoodTable n w)
-told_yes n w g = (sym ((good_exact n w).1 g), (λ e. g, λ h. refl))
-
-pub told_no : (n : ℕ) (w : List Row) → (GoodTable n w → ⊥) → (false ≡ is_good_table n w) × ((false ≡ true) ↔ GoodTable n w)
-told_no n w f = (sym (not_good n w f), (λ e. absurd (let z : ◌≡◌ {A = ℕ} 0 1 = cc in omega arith), λ g. absurd (f g)))
+-- an answer to whether the table is good is the test's
+pub told_good : (n : ℕ) (w : List Row) (b : Bool) → (b ≡ true) ↔ GoodTable n w → b ≡ is_good_table n w
+told_good n w true h = sym ((good_exact n w).1 (h.0 refl))
+told_good n w false h = sym (not_good n w (λ g. let z = h.1 g in cc))
 
 module _ (n : ℕ) (w : List Row) (good : GoodTable n w) (small : n ≤ 100) where
   -- the row of an arc
@@ -62,7 +60,7 @@ module _ (n : ℕ) (w : List Row) (good : GoodTable n w) (small : n ≤ 100) whe
     where
       at : (b : Bool) → eqb (row_at w (a.word - 1)).head 255 ≡ b → cond b None (Some (arc (row_at w (a.word - 1)).head (row_at w (a.word - 1)).label a.word)) ≡ Some a →
           GoodRow n (row_at w (a.word - 1)) → Joins n a × Label a.label
-      at true t e g = absurd (let z : ◌≡◌ {A = ℕ} 0 1 = cc in omega arith)
+      at true t e g = cc
       at false t e (inl (p, q)) = absurd (eqb-false _ _ t p)
       at false t e (inr (p, q)) =
           let same : arc (row_at w (a.word - 1)).head (row_at w (a.word - 1)).label a.word ≡ a = cc in
@@ -89,5 +87,4 @@ heads_row w {h} {d} (l, m) (p, q) =
     let (lo, hi) = table_words w (arc h l d) m in
     let e = sym (into_row w d lo hi) ∙ mem_into w m in
     let f : row_arc d (row_at w (d - 1)) ≡ None = ap (λ (b : Bool). cond b None (Some (arc (row_at w (d - 1)).head (row_at w (d - 1)).label d))) (eq-eqb _ _ p) in
-    let z : ◌≡◌ {A = ℕ} 0 1 = cc in
-    omega arith
+    cc

@@ -3,4 +3,4 @@ pub mod Ways
 pub mod Climbing
 pub mod Projecting
 pub mod Goodness
-pub mod Stacks
+pub mod Joined

@@ -1,7 +1,7 @@
 -- The arcs of a table, row by row.
 use Rattle.std.proofs.Common.{◌≡◌, ℕ, zero, suc, ◌+◌, ◌-◌, ◌<◌, ◌≤◌, Bool, true, false, cond, eqb, ltb, ◌⊎◌, ◌↔◌, List, [], ◌∷◌, length, Some, None, Option, sym, refl, ap, ◌∙◌, subst, inl, inr, arith}
 use mathlib.Core.List.Memᴰ
-use Rattle.std.proofs.lemmas.Bool.{eqb-true, eqb-false, eq-eqb, ne_eqb, ltb-false, le-ltb, cond-true, cond-false}
+use Rattle.std.proofs.lemmas.Bool.{eqb-true, eqb-false, ne_eqb, ltb-false, le-ltb, cond-false}
 use Rattle.treebank.specs.declared.arcs.Arc.{Arc}
 use Rattle.treebank.specs.declared.rows.Row.{Row}
 use Rattle.treebank.specs.Tables.{arc, row_at, row_arc, arc_into, from_head, arc_between, with_arc, arcs_from, table_arcs}
@@ -16,7 +16,7 @@ arc_word : (d : ℕ) (r : Row) (a : Arc) → row_arc d r ≡ Some a → a.word �
 arc_word d r a e = at (eqb r.head 255) e
   where
     at : (b : Bool) → cond b None (Some (arc r.head r.label d)) ≡ Some a → a.word ≡ d
-    at true e = absurd (let z : ◌≡◌ {A = ℕ} 0 1 = cc in omega arith)
+    at true e = cc
     at false e = let f : arc r.head r.label d ≡ a = cc in ap (λ (b : Arc). b.word) (sym f)
 
 mem_said : (d : ℕ) (w : List Row) (a : Arc) → a ∈ arcs_from d w → Says d w a
@@ -59,8 +59,8 @@ module _ (w : List Row) where
   into_word d a e = at (eqb d 0) refl (ltb (length w) d) refl e
     where
       at : (b : Bool) → eqb d 0 ≡ b → (c : Bool) → ltb (length w) d ≡ c → cond b None (cond c None (row_arc d (row_at w (d - 1)))) ≡ Some a → (1 ≤ d) × (d ≤ length w) × (a.word ≡ d)
-      at true s c t e = absurd (let z : ◌≡◌ {A = ℕ} 0 1 = cc in omega arith)
-      at false s true t e = absurd (let z : ◌≡◌ {A = ℕ} 0 1 = cc in omega arith)
+      at true s c t e = cc
+      at false s true t e = cc
       at false s false t e = (omega (arith, eqb-false d 0 s), ltb-false (length w) d t, arc_word d (row_at w (d - 1)) a e)
 
   -- the arcs of a table are those into its words
@@ -100,22 +100,12 @@ module _ (w : List Row) where
   joining h d o e = at (arc_into w d) refl o e
     where
       keep : (a : Arc) → arc_into w d ≡ Some a → (b : Bool) → eqb a.head h ≡ b → (o : Option Arc) → o ≡ cond b (Some a) None → Joining (table_arcs w) h d o
-      keep a i true t None e = absurd (let z : ◌≡◌ {A = ℕ} 0 1 = cc in omega arith)
+      keep a i true t None e = cc
       keep a i true t (Some b) e = let same : a ≡ b = cc in subst (λ (x : Arc). (x ∈ table_arcs w) × (x.head ≡ h) × (x.word ≡ d)) same (into_mem d a i, eqb-true _ _ t, (into_word d a i).2)
       keep a i false t None e = λ (l, m). let same : Some (arc h l d) ≡ Some a = sym (mem_into m) ∙ i in let f : arc h l d ≡ a = cc in eqb-false a.head h t (ap (λ (x : Arc). x.head) (sym f))
-      keep a i false t (Some b) e = absurd (let z : ◌≡◌ {A = ℕ} 0 1 = cc in omega arith)
+      keep a i false t (Some b) e = cc
 
       at : (i : Option Arc) → arc_into w d ≡ i → (o : Option Arc) → o ≡ from_head h i → Joining (table_arcs w) h d o
-      at None i None e = λ (l, m). let z : None ≡ Some (arc h l d) = sym i ∙ mem_into m in let y : ◌≡◌ {A = ℕ} 0 1 = cc in omega arith
-      at None i (Some b) e = absurd (let z : ◌≡◌ {A = ℕ} 0 1 = cc in omega arith)
+      at None i None e = λ (l, m). let z : None ≡ Some (arc h l d) = sym i ∙ mem_into m in cc
+      at None i (Some b) e = cc
       at (Some a) i o e = keep a i (eqb a.head h) refl o e
-
-  -- how an arc from h into d is found
-  pub between_none : (h d : ℕ) → None ≡ arc_into w d → None ≡ arc_between w h d
-  between_none h d e = ap (from_head h) e
-
-  pub between_here : (h d : ℕ) (a : Arc) → Some a ≡ arc_into w d → a.head ≡ h → Some a ≡ arc_between w h d
-  between_here h d a e f = sym (ap (from_head h) (sym e) ∙ cond-true (eqb a.head h) (Some a) None (eq-eqb _ _ f))
-
-  pub between_other : (h d : ℕ) (a : Arc) → Some a ≡ arc_into w d → (a.head ≡ h → ⊥) → None ≡ arc_between w h d
-  between_other h d a e f = sym (ap (from_head h) (sym e) ∙ cond-false (eqb a.head h) (Some a) None (ne_eqb _ _ f))

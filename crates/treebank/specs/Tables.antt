@@ -1,5 +1,5 @@
 -- Rows and tables: the head and the label of each word, and the arcs that they say.
-use Rattle.std.specs.Prelude.{◌≡◌, ℕ, ◌+◌, ◌-◌, ◌<◌, ◌≤◌, Bool, true, cond, ◌&&◌, ◌||◌, ◌⊎◌, List, [], ◌∷◌, length, Some, None, Option, ◌==◌, nat_le, nat_lt, slice_index_or}
+use Rattle.std.specs.Prelude.{◌≡◌, ℕ, ◌+◌, ◌-◌, ◌<◌, ◌≤◌, Bool, true, cond, ◌&&◌, ◌||◌, ◌⊎◌, List, [], ◌∷◌, length, is_some, Some, None, Option, ◌==◌, nat_le, nat_lt, slice_index_or}
 use Rattle.treebank.specs.declared.arcs.Arc.{Arc}
 use Rattle.treebank.specs.declared.rows.Row.{Row}
 use Rattle.treebank.specs.Moves.{Label}
@@ -61,6 +61,15 @@ from_head h (Some a) = cond (a.head == h) (Some a) None
 
 abbrev pub arc_between : List Row → ℕ → ℕ → Option Arc
 arc_between w h d = from_head h (arc_into w d)
+
+-- the table joins the two nodes, one way or the other
+abbrev pub joins : List Row → ℕ → ℕ → Bool
+joins w a b = is_some (arc_between w a b) || is_some (arc_between w b a)
+
+-- the row of a word with this arc, or without a head
+abbrev pub row_of : Option Arc → Row
+row_of None = row 255 0
+row_of (Some a) = row a.head a.label
 
 abbrev pub with_arc : Option Arc → List Arc → List Arc
 with_arc None arcs = arcs

@@ -1,7 +1,7 @@
 use std::fmt;
 
 /// A labelled arc from a head to the word that depends on it.
-#[derive(Clone, Copy, Debug)]
+#[derive(Clone, Copy, Debug, PartialEq, Eq)]
 pub struct Arc {
     pub head: u8,
     pub label: u8,
@@ -10,9 +10,6 @@ pub struct Arc {
 
 impl fmt::Display for Arc {
     fn fmt<W: fmt::Write>(&self, f: &mut fmt::Formatter<W>) -> fmt::Result {
-        let head = self.head;
-        let word = self.word;
-        let label = self.label;
-        write!(f, "{head} -> {word}, label {label}")
+        write!(f, "{} -> {}, label {}", self.head, self.word, self.label)
     }
 }

@@ -4,7 +4,7 @@ ghost use Rattle.treebank.specs.Moves.{kind, label, Proper};
 use std::fmt;
 
 /// A transition by name; the two arc moves carry the number of the label that they draw with.
-#[derive(Clone, Copy, Debug)]
+#[derive(Clone, Copy, Debug, PartialEq, Eq)]
 pub enum Move {
     Shift,
     LeftArc(u8),
@@ -18,6 +18,7 @@ impl Move {
     pub fn kind(self) -> u8
         ensures { result ≡ kind self }
     {
+        // By a match: only cases without a label could have numbers of their own.
         match self {
             Move::Shift => 0,
             Move::LeftArc(_) => 1,
@@ -32,8 +33,7 @@ impl Move {
         ensures { result ≡ label self }
     {
         match self {
-            Move::LeftArc(label) => Some(label),
-            Move::RightArc(label) => Some(label),
+            Move::LeftArc(label) | Move::RightArc(label) => Some(label),
             Move::Shift | Move::Reduce | Move::NoArc => None,
         }
     }
@@ -42,10 +42,7 @@ impl Move {
     pub fn is_proper(self) -> bool
         ensures { (result ≡ true) ↔ Proper self }
     {
-        match self.label() {
-            Some(label) => 1 <= label && label <= 200,
-            None => true,
-        }
+        self.label().is_none_or(|label| 1 <= label && label <= 200)
     }
 }
 

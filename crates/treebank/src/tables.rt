@@ -1,5 +1,5 @@
 ghost use Rattle.std.specs.Prelude.{◌≡◌, true, ◌↔◌};
-ghost use Rattle.treebank.specs.Tables.{GoodRow, GoodTable, is_good_table, FirstBad, arc_into, arc_between, row_arc, table_arcs};
+ghost use Rattle.treebank.specs.Tables.{GoodRow, GoodTable, is_good_table, FirstBad, arc_into, arc_between, joins, row_arc, row_of, table_arcs};
 ghost use Rattle.treebank.specs.Trees.{Above, Covered, Joining};
 ghost use Rattle.treebank.specs.Climbs.{comes_to};
 ghost use Rattle.treebank.specs.Projectivity.{ToldProjective};
@@ -38,10 +38,29 @@ impl Row {
     }
 }
 
+/// The row of a word with this arc, or of one without a head.
+impl From<Option<Arc>> for Row {
+    ghost from_gives = { λ arc row. row ≡ row_of arc };
+
+    fn from(arc: Option<Arc>) -> Row {
+        match arc {
+            Some(arc) => Row {
+                head: arc.head,
+                label: arc.label,
+            },
+            None => Row {
+                head: Row::NO_HEAD,
+                label: 0,
+            },
+        }
+    }
+}
+
 /// The place of the first row that is not good, or none where all are good.
 pub fn first_bad_row(words: WordCount, rows: &[Row]) -> Option<usize>
     ensures { FirstBad words.count rows.now result }
 {
+    // The form that the rules set: a `for` over the lent rows.
     for (i, row) in rows.iter().enumerate() {
         if !row.is_good(words) {
             return Some(i);
@@ -55,26 +74,16 @@ pub fn is_good_table(words: WordCount, rows: &[Row]) -> bool
     ensures value { result ≡ is_good_table words.count rows.now }
     ensures good { (result ≡ true) ↔ GoodTable words.count rows.now }
 {
-    if rows.len() != words.get() as usize {
-        return false;
-    }
-    match first_bad_row(words, rows) {
-        Some(_) => false,
-        None => true,
-    }
+    // A count beside the rows, and no struct of both: whether they agree is what is asked.
+    rows.len() == words.get() as usize && first_bad_row(words, rows).is_none()
 }
 
 /// The arc into a word; none for a number that is no word of the table.
 pub fn arc_into(rows: &[Row], word: u8) -> Option<Arc>
     ensures { result ≡ arc_into rows.now word }
 {
-    if word == 0 {
-        return None;
-    }
-    if rows.len() < word as usize {
-        return None;
-    }
-    rows[word as usize - 1].arc(word)
+    let place = (word as usize).checked_sub(1)?;
+    rows.get(place)?.arc(word)
 }
 
 /// The arc from a head into a word, if the table has it.
@@ -82,15 +91,14 @@ pub fn arc_between(rows: &[Row], head: u8, word: u8) -> Option<Arc>
     ensures value { result ≡ arc_between rows.now head word }
     ensures joining { Joining (table_arcs rows.now) head word result }
 {
-    match arc_into(rows, word) {
-        Some(arc) => {
-            if arc.head == head {
-                return Some(arc);
-            }
-            None
-        }
-        None => None,
-    }
+    arc_into(rows, word).filter(|arc| arc.head == head)
+}
+
+/// Whether the table joins the two nodes, as head and dependent or as dependent and head.
+pub fn is_joined(rows: &[Row], a: u8, b: u8) -> bool
+    ensures { result ≡ joins rows.now a b }
+{
+    arc_between(rows, a, b).is_some() || arc_between(rows, b, a).is_some()
 }
 
 /// Whether `node` stands above `word`: climbs from the word, head by head, as many arcs as there are rows.
@@ -99,16 +107,14 @@ pub fn stands_above(rows: &[Row], node: u8, word: u8) -> bool
     ensures above { (result ≡ true) ↔ Above (table_arcs rows.now) node word }
 {
     let mut at = word;
-    for step in 0..rows.len() {
-        match arc_into(rows, at) {
-            Some(arc) => {
-                if arc.head == node {
-                    return true;
-                }
-                at = arc.head;
-            }
-            None => return false,
+    for _ in 0..rows.len() {
+        let Some(arc) = arc_into(rows, at) else {
+            return false;
+        };
+        if arc.head == node {
+            return true;
         }
+        at = arc.head;
     }
     false
 }
@@ -119,6 +125,7 @@ fn is_covered(rows: &[Row], arc: Arc) -> bool
 {
     let low = arc.head.min(arc.word);
     let high = arc.head.max(arc.word);
+    // From `low` itself: one more might not fit its type.
     for word in low..high {
         if word != low && !stands_above(rows, arc.head, word) {
             return false;
@@ -132,9 +139,10 @@ pub fn is_projective(rows: &[Row]) -> Result<bool, Refusal>
     ensures { ToldProjective rows.now result }
 {
     let words = WordCount::new(rows.len())?;
-    if let Some(_) = first_bad_row(words, rows) {
+    if first_bad_row(words, rows).is_some() {
         return Err(Refusal::BadRow);
     }
+    // From 0: of a loop over `1..=n` the last turn left a goal open, where its two branches join.
     for word in 0..words.get() {
         if let Some(arc) = arc_into(rows, word + 1) {
             if !is_covered(rows, arc) {

@@ -8,6 +8,9 @@ impl WordCount {
     /// The largest number of words that a sentence may have.
     pub const MOST: usize = 100;
 
+    /// No words.
+    pub const NONE: WordCount = WordCount { count: 0 };
+
     /// A count of words, or `TooManyWords` for more than 100.
     pub fn new(words: usize) -> Result<WordCount, Refusal>
         ensures { Counted words result }

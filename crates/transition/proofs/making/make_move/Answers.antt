@@ -6,7 +6,7 @@ use Rattle.transition.proofs.making.make_move.Goals as goal
 
 pub returns-then-not-is_proper : goal.returns-then-not-is_proper
 returns-then-not-is_proper g c = record {
-  made = (inl ((λ p. false≢true (c.if-not-is_proper.ensures.1 p)), refl), refl);
+  made = (inl ((λ p. false≢true (c.if-not-is_proper.ensures.1 p)), c.from.ensures), refl);
   alike = refl;
   theory = theory (g.met.S.System.laws c.args.system.now);
 }

@@ -1,30 +1,16 @@
-use Rattle.std.proofs.Common.{◌≡◌, true, false, length, sym, ◌∙◌, arith}
-use Rattle.treebank.specs.Climbs.{comes_to}
-use Rattle.treebank.proofs.Climbing.{climb_top, climb_here, climb_on, climb_spent, told}
+use Rattle.std.proofs.Common.{true, false, ◌∙◌, arith, rules}
+use Rattle.treebank.proofs.Climbing.{climb_on, told}
 use Rattle.treebank.proofs.tables.stands_above.Goals as goal
 
-pub returns-then-arc-node : goal.returns-then-arc-node
-returns-then-arc-node c =
-    let w = c.args.rows.now in
-    let e : true ≡ comes_to w c.args.node c.args.word =
-    sym (c.loop-step.invariant.0 ∙ climb_here w c.args.node c.loop-step.at (length w) c.loop-step.step c.loop-step-test.true c.in-Some.arc c.in-Some.ensures c.if-arc-node.true) in
-    record { value = e; above = told w c.args.node c.args.word true e }
+pub returns-in_default-clause-above : goal.returns-in_default-clause-above
+returns-in_default-clause-above c = told c.args.rows.now c.args.node c.args.word false (search rules)
 
-pub returns-in-None : goal.returns-in-None
-returns-in-None c =
-    let w = c.args.rows.now in
-    let e : false ≡ comes_to w c.args.node c.args.word =
-    sym (c.loop-step.invariant.0 ∙ climb_top w c.args.node c.loop-step.at (length w) c.loop-step.step c.loop-step-test.true c.in-None.ensures) in
-    record { value = e; above = told w c.args.node c.args.word false e }
+pub returns-then-arc-node-clause-above : goal.returns-then-arc-node-clause-above
+returns-then-arc-node-clause-above c = told c.args.rows.now c.args.node c.args.word true (search rules)
 
-pub loop-step-preserved : goal.loop-step-preserved
-loop-step-preserved c =
-    let w = c.args.rows.now in
-    (c.loop-step.invariant.0 ∙ climb_on w c.args.node c.loop-step.at (length w) c.loop-step.step c.loop-step-test.true c.in-Some.arc c.in-Some.ensures c.if-arc-node.false, omega arith)
+pub loop-preserved : goal.loop-preserved
+loop-preserved c =
+    (c.loop.invariant.0 ∙ climb_on c.args.rows.now c.args.node c.loop.at _ c.loop.counter c.loop-test.true c.in-Some.arc c.in-Some.ensures c.if-arc-node.false, omega arith)
 
-pub returns : goal.returns
-returns c =
-    let w = c.args.rows.now in
-    let e : false ≡ comes_to w c.args.node c.args.word =
-    sym (c.loop-step.invariant.0 ∙ climb_spent w c.args.node c.loop-step.at (length w) c.loop-step.step c.loop-step-test.false) in
-    record { value = e; above = told w c.args.node c.args.word false e }
+pub returns-clause-above : goal.returns-clause-above
+returns-clause-above c = told c.args.rows.now c.args.node c.args.word false (search rules)
