@@ -25,10 +25,8 @@ pub fn build_forest(heap: Global, table: &[Row]) -> Result<Vec<Move>, BuildError
     ensures class { ReachesProjectiveForests }
     ensures exact { ViableExactly arc_eager start Viable }
 {
-    let words = match WordCount::new(table.len()) {
-        Ok(words) => words,
-        Err(why) => return Err(BuildError::Refused(why)),
-    };
-    let mut system = ArcEager::new(words);
-    build(heap, &mut system, table)
+    // One function for each system: a generic one needs a trait with the class, its laws and a constructor, which is longer,
+    // and its clauses say less plainly what each system builds.
+    let words = WordCount::new(table.len())?;
+    build(heap, &mut ArcEager::new(words), table)
 }

@@ -1,17 +1,16 @@
-ghost use Rattle.std.specs.Prelude.{◌≡◌, ◌+◌, ◌≤◌, length};
+ghost use Rattle.std.specs.Prelude.{◌+◌, ◌≤◌};
+ghost use Rattle.arrayvec.specs.ArrayVec.{array_vec_len};
 
 use arc_store::store::ArcStore;
+use arrayvec::ArrayVec;
 
-/// An arc-eager configuration: the stack is the first `depth` nodes, its top the last of them, and the buffer is the words
-/// behind the first `done`.
+/// An arc-eager configuration: the stack has its top last, and the buffer is the words behind the first `done`.
 #[derive(Drop)]
 pub struct ArcEager {
-    stack: [u8; 101],
-    depth: usize,
+    stack: ArrayVec<u8, 101>,
     done: u8,
     arcs: ArcStore,
-    ghost room: { length stack ≡ 101 },
-    ghost deep: { depth ≤ done + 1 },
+    ghost deep: { array_vec_len stack ≤ done + 1 },
     ghost upto: { done ≤ arcs.words.count },
 }
 

@@ -8,50 +8,36 @@ use Rattle.treebank.specs.declared.moves.Move.{Move}
 use Rattle.treebank.specs.declared.moves.Move.TheVariants.{Shift, LeftArc, RightArc, Reduce}
 use Rattle.treebank.specs.declared.rows.Row.{Row}
 use Rattle.treebank.specs.Moves.{Label}
-use Rattle.treebank.specs.Tables.{arc, GoodTable, is_good_table, arc_into, arc_between, table_arcs}
+use Rattle.treebank.specs.Tables.{arc, GoodTable, is_good_table, arc_into, arc_between, joins, table_arcs}
 use Rattle.treebank.specs.Trees.{◌∈◌, Heads, Joins}
 use Rattle.treebank.proofs.Said.{joining, into_mem, into_word, mem_into}
+use Rattle.treebank.proofs.Joined.{joined, not_joined}
 use Rattle.treebank.proofs.Goodness.{good_exact, table_fits}
 use Rattle.arc_store.proofs.Putting.{put_fresh}
 use Rattle.guidance.specs.Viability.{GoesOn}
 use Rattle.arc_eager_theory.specs.Configurations.{Configuration, configuration, finished}
 use Rattle.arc_eager_theory.specs.Moves.{arc_eager}
-use Rattle.arc_eager_theory.specs.Advice.{joins, joins_any, right_advice, left_advice, advice}
+use Rattle.arc_eager_theory.specs.Advice.{joins_any, right_advice, left_advice, advice}
 use Rattle.arc_eager_theory.specs.Viable.{Viable}
 use Rattle.arc_eager_theory.proofs.Kept.{Kept, inside}
 use Rattle.arc_eager_theory.proofs.Defined.{left_fresh, left_permits, right_fresh, right_permits, reduce_permits}
 use Rattle.arc_eager_theory.proofs.Onward.{Joined, left_free, left_viable, right_viable, reduce_viable, shift_viable}
-
--- an arc leads from h into d just where it is found
-heads_found : (w : List Row) (h d : ℕ) → Heads (table_arcs w) h d → is_some (arc_between w h d) ≡ true
-heads_found w h d g = at (arc_between w h d) refl
-  where
-    at : (o : Option Arc) → arc_between w h d ≡ o → is_some o ≡ true
-    at None e = absurd (joining w h d None (sym e) g)
-    at (Some a) e = refl
-
-found_arc : (w : List Row) (h d : ℕ) → is_some (arc_between w h d) ≡ true → (a : Arc) × (a ∈ table_arcs w) × (a.head ≡ h) × (a.word ≡ d)
-found_arc w h d t = at (arc_between w h d) refl t
-  where
-    at : (o : Option Arc) → arc_between w h d ≡ o → is_some o ≡ true → (a : Arc) × (a ∈ table_arcs w) × (a.head ≡ h) × (a.word ≡ d)
-    at None e t = absurd (both_ways false refl t)
-    at (Some a) e t = let (m, p, q) = joining w h d (Some a) (sym e) in (a, m, p, q)
 
 -- the table joins the first word of the buffer to a node of the list
 joined_some : (w : List Row) (d : ℕ) (s : List ℕ) → joins_any w (d + 1) s ≡ true → (a : Arc) × (a ∈ table_arcs w) × Joined d s a
 joined_some w d [] t = absurd (both_ways false refl t)
 joined_some w d (x ∷ s) t = at (or_cases (joins w (d + 1) x) (joins_any w (d + 1) s) t) (joined_some w d s)
   where
-    here : (is_some (arc_between w (d + 1) x) ≡ true) ⊎ (is_some (arc_between w x (d + 1)) ≡ true) → (a : Arc) × (a ∈ table_arcs w) × Joined d (x ∷ s) a
-    here (inl f) = let (a, m, p, q) = found_arc w (d + 1) x f in (a, m, inr (p, Memᴰ.head q))
-    here (inr f) = let (a, m, p, q) = found_arc w x (d + 1) f in (a, m, inl (q, Memᴰ.head p))
+    here : Heads (table_arcs w) (d + 1) x ⊎ Heads (table_arcs w) x (d + 1) → (a : Arc) × (a ∈ table_arcs w) × Joined d (x ∷ s) a
+    here (inl (l, m)) = (arc (d + 1) l x, m, inr (refl, Memᴰ.head refl))
+    here (inr (l, m)) = (arc x l (d + 1), m, inl (refl, Memᴰ.head refl))
 
     deeper : (a : Arc) → Joined d s a → Joined d (x ∷ s) a
     deeper a (inl (e, m)) = inl (e, Memᴰ.tail m)
     deeper a (inr (e, m)) = inr (e, Memᴰ.tail m)
 
     at : (joins w (d + 1) x ≡ true) ⊎ (joins_any w (d + 1) s ≡ true) → (joins_any w (d + 1) s ≡ true → (a : Arc) × (a ∈ table_arcs w) × Joined d s a) → (a : Arc) × (a ∈ table_arcs w) × Joined d (x ∷ s) a
-    at (inl f) rest = here (or_cases (is_some (arc_between w (d + 1) x)) (is_some (arc_between w x (d + 1))) f)
+    at (inl f) rest = here (joined w (d + 1) x f)
     at (inr f) rest = let (a, m, j) = rest f in (a, m, deeper a j)
 
 joined_none : (w : List Row) (d : ℕ) (s : List ℕ) → joins_any w (d + 1) s ≡ false → (a : Arc) → a ∈ table_arcs w → Joined d s a → ⊥
@@ -59,23 +45,16 @@ joined_none w d [] t a m (inl (e, n)) = Memᴰ.not-nil n
 joined_none w d [] t a m (inr (e, n)) = Memᴰ.not-nil n
 joined_none w d (x ∷ s) t a m j = at j (or_parts (joins w (d + 1) x) (joins_any w (d + 1) s) t) (joined_none w d s)
   where
-    heads : a ∈ table_arcs w → Heads (table_arcs w) a.head a.word
-    heads m = (a.label, m)
-
     at : Joined d (x ∷ s) a → (joins w (d + 1) x ≡ false) × (joins_any w (d + 1) s ≡ false) → (joins_any w (d + 1) s ≡ false → (b : Arc) → b ∈ table_arcs w → Joined d s b → ⊥) → ⊥
     at (inl (e, n)) (p, q) rest = from (Memᴰ.cases_cons n)
       where
         from : (a.head ≡ x) ⊎ Memᴰ a.head s → ⊥
-        from (inl f) =
-            both_ways (is_some (arc_between w x (d + 1))) (or_parts (is_some (arc_between w (d + 1) x)) _ p).1
-            (heads_found w x (d + 1) (subst (λ (y : ℕ). Heads (table_arcs w) y (d + 1)) f (subst (Heads (table_arcs w) a.head) e (heads m))))
+        from (inl f) = not_joined w (d + 1) x p (inr (a.label, subst (λ (y : Arc). y ∈ table_arcs w) (λ i. arc (f i) a.label (e i)) m))
         from (inr k) = rest q a m (inl (e, k))
     at (inr (e, n)) (p, q) rest = into (Memᴰ.cases_cons n)
       where
         into : (a.word ≡ x) ⊎ Memᴰ a.word s → ⊥
-        into (inl f) =
-            both_ways (is_some (arc_between w (d + 1) x)) (or_parts (is_some (arc_between w (d + 1) x)) _ p).0
-            (heads_found w (d + 1) x (subst (Heads (table_arcs w) (d + 1)) f (subst (λ (y : ℕ). Heads (table_arcs w) y a.word) e (heads m))))
+        into (inl f) = not_joined w (d + 1) x p (inl (a.label, subst (λ (y : Arc). y ∈ table_arcs w) (λ i. arc (e i) a.label (f i)) m))
         into (inr k) = rest q a m (inr (e, k))
 
 abbrev pub On : Configuration → List Row → Type 0

@@ -1,8 +1,8 @@
 -- A move is permitted just where Nivre has a transition, and leads where that leads.
-use Rattle.std.proofs.Common.{◌≡◌, ℕ, zero, suc, ◌+◌, ◌-◌, ◌<◌, ◌≤◌, false, ◌⊎◌, List, [], ◌∷◌, length, is_some, Some, None, Ok, Err, Option, sym, refl, ap, ◌∙◌, subst, inl, inr, arith, MatchResult}
+use Rattle.std.proofs.Common.{◌≡◌, ℕ, ◌+◌, ◌-◌, ◌<◌, false, List, [], ◌∷◌, length, is_some, Some, None, Ok, Err, Option, sym, refl, ap, ◌∙◌, subst, arith, MatchResult}
 use mathlib.Core.List.Memᴰ
 use Rattle.std.specs.List.{range_with_len}
-use Rattle.std.proofs.lemmas.Bool.{ne_eqb, cond-true, cond-false, cases_lt}
+use Rattle.std.proofs.lemmas.Bool.{ne_eqb, cond-true, cond-false}
 use Rattle.treebank.specs.declared.arcs.Arc.{Arc}
 use Rattle.treebank.specs.declared.moves.Move.{Move}
 use Rattle.treebank.specs.declared.moves.Move.TheVariants.{Shift, LeftArc, RightArc, Reduce}
@@ -15,6 +15,7 @@ use Rattle.transition.specs.Meaning.{Verdict}
 use Rattle.transition.specs.Verdicts.{drawn}
 use Rattle.transition.specs.Runs.{Arises}
 use Rattle.arc_store.specs.Drawing.{put}
+use Rattle.arc_store.proofs.Counting.{counting_next, counts_from}
 use Rattle.arc_store.proofs.Freshness.{fresh_verdict}
 use Rattle.arc_store.proofs.Putting.{put_length, put_fresh}
 use Rattle.arc_store.proofs.Verdicts.{impossible}
@@ -24,20 +25,9 @@ use Rattle.arc_eager_theory.specs.Nivre.{Triple, triple, Headed, Transition, sho
 use Rattle.arc_eager_theory.proofs.Chains.{desc_below, above_mem}
 use Rattle.arc_eager_theory.proofs.Kept.{Permitted, permitted, Kept, kept, inside}
 
-counting_next : (b k : ℕ) → 1 ≤ k → range_with_len b k ≡ b ∷ range_with_len (b + 1) (k - 1)
-counting_next b zero l = absurd (omega arith)
-counting_next b (suc k) l = let e : k ≡ suc k - 1 = omega arith in ap (λ (x : ℕ). b ∷ range_with_len (b + 1) x) e
-
 -- the buffer without its first word
 buffer_next : (n d : ℕ) → d < n → range_with_len (d + 1) (n - d) ≡ (d + 1) ∷ range_with_len (d + 1 + 1) (n - (d + 1))
 buffer_next n d l = counting_next (d + 1) (n - d) (omega arith) ∙ (let e : n - d - 1 ≡ n - (d + 1) = omega arith in ap (λ (x : ℕ). (d + 1) ∷ range_with_len (d + 1 + 1) x) e)
-
-positive : (x : ℕ) → (x ≡ 0 → ⊥) → 1 ≤ x
-positive zero not = absurd (not refl)
-positive (suc x) not = omega arith
-
-not_empty : (i : ℕ) (β : List ℕ) → ◌≡◌ {A = List ℕ} [] (i ∷ β) → ⊥
-not_empty i β e = let z : ◌≡◌ {A = ℕ} 0 1 = cc in omega arith
 
 -- every accepted move is a transition
 module _ (d : ℕ) (rows : List Row) (inner : d < length rows) where
@@ -81,7 +71,7 @@ module _ {d i : ℕ} {s : List ℕ} {rows : List Row} (k : Kept (configuration (
 
   pub left_fresh : (l : ℕ) → (i ≡ 0 → ⊥) → (Headed (table_arcs rows) i → ⊥) → Fresh (length rows) (table_arcs rows) (arc (d + 1) l i)
   left_fresh l not free = let t = k.desc.0 in record {
-    joins = record { word = (positive i not, omega arith); head = omega arith };
+    joins = record { word = (omega arith, omega arith); head = omega arith };
     headless = λ a m e. free (a, m, e);
     apart = λ e. omega arith;
     not_below = λ u. let (a, m, e) = last_arc u in no_head a m e;
@@ -106,11 +96,7 @@ module _ {d i : ℕ} {s : List ℕ} {rows : List Row} (k : Kept (configuration (
 
 -- where the buffer has a word
 front_word : (c : Configuration) (j : ℕ) (β : List ℕ) → j ∷ β ≡ range_with_len (front c) (words c - c.done) → (c.done < words c) × (j ≡ front c)
-front_word c j β e = at (cases_lt c.done (words c))
-  where
-    at : (c.done < words c) ⊎ (words c ≤ c.done) → (c.done < words c) × (j ≡ front c)
-    at (inl l) = (l, let f = e ∙ buffer_next (words c) c.done l in let g : j ≡ c.done + 1 = cc in g)
-    at (inr l) = absurd (not_empty j β (sym (e ∙ ap (range_with_len (front c)) (let z : words c - c.done ≡ 0 = omega arith in z))))
+front_word c j β e = let (l, f) = counts_from (front c) (words c - c.done) j β e in (omega arith, f)
 
 -- where there is a transition the move is permitted
 allowed : (c : Configuration) {t u : Triple} {m : Move} → Kept c → Transition t m u → t ≡ shown c → Permits c m

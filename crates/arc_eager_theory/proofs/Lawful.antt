@@ -1,18 +1,17 @@
 -- Arc-eager keeps the laws.
-use Rattle.std.proofs.Common.{◌≡◌, ℕ, ◌≤◌, Bool, true, false, cond, ◌↔◌, is_some, None, Ok, Err, Option, sym, refl, ◌∙◌, arith}
+use Rattle.std.proofs.Common.{◌≡◌, ℕ, ◌≤◌, Bool, true, false, cond, is_some, None, Ok, Option, sym, refl, arith}
 use lib.ListN.{length-replicate}
 use Rattle.std.proofs.lemmas.Bool.{both_ways, true≢false}
 use Rattle.treebank.specs.declared.arcs.Arc.{Arc}
 use Rattle.treebank.specs.declared.moves.Move.{Move}
 use Rattle.treebank.specs.declared.moves.Move.TheVariants.{Shift, LeftArc, RightArc, Reduce, NoArc}
-use Rattle.treebank.specs.declared.refusals.Refusal.TheVariants.{Finished, HasNoHead}
+use Rattle.treebank.specs.declared.refusals.Refusal.TheVariants.{ForeignMove, Finished, HasNoHead}
 use Rattle.treebank.specs.Tables.{arc_into}
-use Rattle.transition.specs.declared.faults.Fault.{Fault}
 use Rattle.transition.specs.Verdicts.{refused}
-use Rattle.transition.specs.Laws.{Begins, Draws, Foreign, Laws}
+use Rattle.transition.specs.Laws.{Begins, Draws, Laws}
 use Rattle.arc_store.specs.Drawing.{bare}
 use Rattle.arc_store.proofs.Putting.{put_fresh, none_drawn}
-use Rattle.arc_store.proofs.Verdicts.{told_arc, Usual, usual_refusal, usual_test, usual_arc, not_foreign, usual_level, foreign_level}
+use Rattle.arc_store.proofs.Verdicts.{told_arc, Usual, usual_refusal, usual_test, usual_arc, foreign_exactly, lowest_level}
 use Rattle.arc_eager_theory.specs.Configurations.{Configuration, words, start, finished, top}
 use Rattle.arc_eager_theory.specs.Moves.{own, left_arc, right_arc, verdict, arc_eager}
 use Rattle.arc_eager_theory.proofs.Kept.{Permitted, permitted, kept, inside, falls}
@@ -42,22 +41,12 @@ usual c (RightArc l) o = usual_test Finished (finished c) _ (λ e. omega arith) 
 usual c Reduce o = usual_test Finished (finished c) _ (λ e. omega arith) (usual_reduce (is_some (arc_into c.rows (top c.stack))))
 usual c NoArc o = absurd (true≢false (sym o))
 
-own_not_foreign : (c : Configuration) (m : Move) → own m ≡ true → Foreign (verdict c m) ↔ (own m ≡ false)
-own_not_foreign c m o = (λ f. absurd (not_foreign _ (usual c m o) f), λ e. absurd (true≢false (sym o ∙ e)))
-
-foreign : (c : Configuration) (m : Move) → Foreign (verdict c m) ↔ (own m ≡ false)
-foreign c Shift = own_not_foreign c Shift refl
-foreign c (LeftArc l) = own_not_foreign c (LeftArc l) refl
-foreign c (RightArc l) = own_not_foreign c (RightArc l) refl
-foreign c Reduce = own_not_foreign c Reduce refl
-foreign c NoArc = (λ f. refl, λ e. refl)
-
-levels : (c : Configuration) (m : Move) (f : Fault) → verdict c m ≡ Err f → f.level ≤ 0
-levels c Shift f e = usual_level _ f (usual c Shift refl) e
-levels c (LeftArc l) f e = usual_level _ f (usual c (LeftArc l) refl) e
-levels c (RightArc l) f e = usual_level _ f (usual c (RightArc l) refl) e
-levels c Reduce f e = usual_level _ f (usual c Reduce refl) e
-levels c NoArc f e = foreign_level f e
+others : (c : Configuration) (m : Move) → own m ≡ false → verdict c m ≡ refused ForeignMove
+others c Shift o = absurd (true≢false o)
+others c (LeftArc l) o = absurd (true≢false o)
+others c (RightArc l) o = absurd (true≢false o)
+others c Reduce o = absurd (true≢false o)
+others c NoArc o = refl
 
 pub lawful : Laws arc_eager start
 lawful = record {
@@ -67,7 +56,7 @@ lawful = record {
   drawing = λ {c} m a h v. draws c m a (permitted c m a v).1 (kept h).small;
   falling = λ {c} m a h v. let (e, q) = permitted c m a v in (falls (kept h) (inside (kept h) e) m a q).1;
   stopping = λ {c} m a h e v. both_ways _ (permitted c m a v).0 e;
-  foreign = foreign;
-  levels = levels;
+  foreign = foreign_exactly arc_eager usual others;
+  levels = lowest_level arc_eager usual others;
   numbers = (omega arith, omega arith);
 }

@@ -1,10 +1,9 @@
 -- What is viable is what can be reached, and at the start these are the projective forests.
-use Rattle.std.proofs.Common.{◌≡◌, ℕ, ◌≤◌, Bool, true, false, cond, ◌⊎◌, ◌↔◌, List, [], ◌∷◌, None, Option, sym, refl, subst, inl, inr, arith}
+use Rattle.std.proofs.Common.{◌≡◌, ℕ, ◌≤◌, ◌⊎◌, ◌↔◌, List, [], ◌∷◌, None, sym, subst, inl, inr, arith}
 use mathlib.Core.List.Memᴰ
 use lib.ListN.{length-replicate}
 use Rattle.std.proofs.lemmas.Bool.{cases_eq, cond-true, cond-false}
 use Rattle.treebank.specs.declared.arcs.Arc.{Arc}
-use Rattle.treebank.specs.declared.moves.Move.{Move}
 use Rattle.treebank.specs.declared.rows.Row.{Row}
 use Rattle.treebank.specs.Tables.{GoodTable, is_good_table, table_arcs}
 use Rattle.treebank.specs.Trees.{◌∈◌, Above, Between, Projective}
@@ -13,6 +12,7 @@ use Rattle.transition.proofs.Running.{arises_start}
 use Rattle.transition.proofs.Forests.{arcs_forest}
 use Rattle.arc_store.specs.Drawing.{bare}
 use Rattle.arc_store.proofs.Putting.{none_drawn}
+use Rattle.arc_store.proofs.Verdicts.{none_either}
 use Rattle.guidance.specs.Guides.{Guides}
 use Rattle.guidance.specs.Viability.{Viability, ViableExactly}
 use Rattle.guidance.proofs.Viably.{viable_guides, viable_exactly, viable_reaches}
@@ -32,14 +32,10 @@ viability = record {
   on = λ {c} w h good u x. on_any c.stack c.done c.rows w good (kept h) u x;
 }
 
-either : (b : Bool) {r : Option Move} → r ≡ None → cond b None r ≡ None
-either true e = refl
-either false e = e
-
 -- the law of advice
 pub guides : Guides arc_eager start
 guides = viable_guides lawful viability (λ c w e. cond-true (finished c) None _ e)
-    (λ c w f. either (finished c) (cond-false (is_good_table (words c) w) _ None (not_good (words c) w f)))
+    (λ c w f. none_either (finished c) (cond-false (is_good_table (words c) w) _ None (not_good (words c) w f)))
 
 -- reachable, viable and made by the advice are one
 pub exactly : ViableExactly arc_eager start Viable

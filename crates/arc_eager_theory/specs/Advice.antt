@@ -1,20 +1,16 @@
 -- What arc-eager advises for a wanted table: the first line that fits.
-use Rattle.std.specs.Prelude.{ℕ, Bool, false, cond, ◌&&◌, ◌||◌, List, [], ◌∷◌, is_some, Some, None, Option}
+use Rattle.std.specs.Prelude.{ℕ, Bool, cond, ◌&&◌, List, is_some, Some, None, Option}
+use Rattle.std.specs.List.{list_any}
 use Rattle.treebank.specs.declared.arcs.Arc.{Arc}
 use Rattle.treebank.specs.declared.moves.Move.{Move}
 use Rattle.treebank.specs.declared.moves.Move.TheVariants.{Shift, LeftArc, RightArc, Reduce}
 use Rattle.treebank.specs.declared.rows.Row.{Row}
-use Rattle.treebank.specs.Tables.{is_good_table, arc_into, arc_between}
+use Rattle.treebank.specs.Tables.{is_good_table, arc_into, arc_between, joins}
 use Rattle.arc_eager_theory.specs.Configurations.{Configuration, words, finished, front, top, under}
-
--- the table joins the two nodes, as head and dependent or as dependent and head
-abbrev pub joins : List Row → ℕ → ℕ → Bool
-joins w j x = is_some (arc_between w j x) || is_some (arc_between w x j)
 
 -- the table joins j to a node of the list
 abbrev pub joins_any : List Row → ℕ → List ℕ → Bool
-joins_any w j [] = false
-joins_any w j (x ∷ st) = joins w j x || joins_any w j st
+joins_any w j st = list_any (joins w j) st
 
 -- Reduce if the top has a head and the table joins the buffer's first word to a node under it; else Shift
 abbrev pub reduce_advice : Configuration → List Row → Option Move

@@ -1,5 +1,5 @@
 -- The configurations of arc-eager.
-use Rattle.std.specs.Prelude.{ℕ, ◌+◌, ◌-◌, ◌*◌, Bool, List, [], ◌∷◌, length, replicate, ◌==◌}
+use Rattle.std.specs.Prelude.{ℕ, ◌+◌, ◌-◌, ◌*◌, Bool, List, [], ◌∷◌, drop, length, replicate, ◌==◌}
 use Rattle.treebank.specs.declared.rows.Row.{Row}
 use Rattle.arc_store.specs.Drawing.{bare}
 
@@ -33,8 +33,7 @@ top [] = 0
 top (x ∷ st) = x
 
 abbrev pub under : List ℕ → List ℕ
-under [] = []
-under (x ∷ st) = st
+under st = drop 1 st
 
 -- two moves for each word of the buffer, one for each node of the stack but the root
 abbrev pub remaining : Configuration → ℕ

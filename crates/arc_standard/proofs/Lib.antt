@@ -1,4 +1,2 @@
 pub mod Stacked
-pub mod Same
-pub mod Steps
-pub mod Answered
+pub mod Counted

@@ -25,10 +25,8 @@ pub fn build_tree(heap: Global, table: &[Row]) -> Result<Vec<Move>, BuildError>
     ensures class { ReachesProjectiveTrees }
     ensures exact { ViableExactly arc_standard start Viable }
 {
-    let words = match WordCount::new(table.len()) {
-        Ok(words) => words,
-        Err(why) => return Err(BuildError::Refused(why)),
-    };
-    let mut system = ArcStandard::new(words);
-    build(heap, &mut system, table)
+    // One function for each system: a generic one needs a trait with the class, its laws and a constructor, which is longer,
+    // and its clauses say less plainly what each system builds.
+    let words = WordCount::new(table.len())?;
+    build(heap, &mut ArcStandard::new(words), table)
 }

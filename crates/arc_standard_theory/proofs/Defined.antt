@@ -1,8 +1,8 @@
 -- A move is permitted just where Nivre has a transition, and leads where that leads.
-use Rattle.std.proofs.Common.{◌≡◌, ℕ, zero, suc, ◌+◌, ◌-◌, ◌<◌, ◌≤◌, false, ◌⊎◌, List, [], ◌∷◌, length, Some, None, Ok, Err, Option, sym, refl, ap, ◌∙◌, subst, inl, inr, arith, MatchResult}
+use Rattle.std.proofs.Common.{◌≡◌, ℕ, ◌+◌, ◌-◌, ◌<◌, ◌≤◌, false, List, ◌∷◌, length, Some, None, Ok, Err, Option, sym, refl, ap, ◌∙◌, subst, inl, arith, MatchResult}
 use mathlib.Core.List.Memᴰ
 use Rattle.std.specs.List.{range_with_len}
-use Rattle.std.proofs.lemmas.Bool.{le-ltb, and_right, cond-false, cases_lt}
+use Rattle.std.proofs.lemmas.Bool.{le-ltb, and_right, cond-false}
 use Rattle.treebank.specs.declared.arcs.Arc.{Arc}
 use Rattle.treebank.specs.declared.moves.Move.{Move}
 use Rattle.treebank.specs.declared.moves.Move.TheVariants.{Shift, LeftArc, RightArc}
@@ -13,6 +13,7 @@ use Rattle.transition.specs.Meaning.{Verdict}
 use Rattle.transition.specs.Verdicts.{drawn}
 use Rattle.transition.specs.Runs.{Arises}
 use Rattle.arc_store.specs.Drawing.{put}
+use Rattle.arc_store.proofs.Counting.{buffer_next, counts_from}
 use Rattle.arc_store.proofs.Freshness.{fresh_verdict}
 use Rattle.arc_store.proofs.Putting.{put_length, put_fresh}
 use Rattle.arc_standard_theory.specs.Configurations.{Configuration, configuration, words, start, root_alone, finished, emptied}
@@ -21,14 +22,6 @@ use Rattle.arc_standard_theory.specs.Nivre.{Triple, triple, Transition, shown, A
 use Rattle.arc_standard_theory.proofs.Accepted.{Makes, makes}
 use Rattle.arc_store.proofs.Verdicts.{impossible}
 use Rattle.arc_standard_theory.proofs.Kept.{Kept, kept, In, none_above}
-
-counting_next : (b k : ℕ) → 1 ≤ k → range_with_len b k ≡ b ∷ range_with_len (b + 1) (k - 1)
-counting_next b zero l = absurd (omega arith)
-counting_next b (suc k) l = let e : k ≡ suc k - 1 = omega arith in ap (λ (x : ℕ). b ∷ range_with_len (b + 1) x) e
-
--- the buffer without its first word
-buffer_next : (n b : ℕ) → b ≤ n → range_with_len b (n + 1 - b) ≡ b ∷ range_with_len (b + 1) (n + 1 - (b + 1))
-buffer_next n b l = counting_next b (n + 1 - b) (omega arith) ∙ (let e : n + 1 - b - 1 ≡ n + 1 - (b + 1) = omega arith in ap (λ (x : ℕ). b ∷ range_with_len (b + 1) x) e)
 
 -- every accepted move is a transition
 accepted : {c d : Configuration} {m : Move} {a : Option Arc} → Makes c m a d → words c ≤ 100 → Transition (shown c) m (shown d)
@@ -45,10 +38,6 @@ accepted (Makes.right {b = b} {j = j} {i = i} {l = l} {s = s} {w = w} f) small =
 abbrev pub Permits : Configuration → Move → Type 0
 Permits c m = (a : Option Arc) × (verdict c m ≡ Ok a)
 
-positive : (x : ℕ) → (x ≡ 0 → ⊥) → 1 ≤ x
-positive zero not = absurd (not refl)
-positive (suc x) not = omega arith
-
 -- an arc between the two nodes at the top may be drawn
 module _ {b j i : ℕ} {s : List ℕ} {w : List Row} (k : Kept (configuration (j ∷ (i ∷ s)) b w)) where
   below_top : (i < j) × (j ≤ length w)
@@ -62,7 +51,7 @@ module _ {b j i : ℕ} {s : List ℕ} {w : List Row} (k : Kept (configuration (j
 
   pub left_fresh : (l : ℕ) → (i ≡ 0 → ⊥) → Fresh (length w) (table_arcs w) (arc j l i)
   left_fresh l not = let (p, q) = below_top in record {
-    joins = record { word = (positive i not, omega arith); head = q };
+    joins = record { word = (omega arith, omega arith); head = q };
     headless = k.headless second_in;
     apart = λ e. omega arith;
     not_below = λ u. none_above k u top_in;
@@ -82,21 +71,12 @@ module _ {b j i : ℕ} {s : List ℕ} {w : List Row} (k : Kept (configuration (j
   pub right_permits : (l : ℕ) → Permits (configuration (j ∷ (i ∷ s)) b w) (RightArc l)
   right_permits l = (Some (arc i l j), ap drawn (fresh_verdict w (arc i l j) (right_fresh l)))
 
-not_empty : (i : ℕ) (β : List ℕ) → ◌≡◌ {A = List ℕ} [] (i ∷ β) → ⊥
-not_empty i β e = let z : ◌≡◌ {A = ℕ} 0 1 = cc in omega arith
-
 -- where there is a transition the move is permitted
 permitted : (c : Configuration) {t u : Triple} {m : Move} → Kept c → Transition t m u → t ≡ shown c → Permits c m
-permitted c k (Transition.shift {i = i} {σ = σ} {β = β} {before = before} same) e = at (cases_lt (words c) c.front)
-  where
-    buffer : i ∷ β ≡ range_with_len c.front (words c + 1 - c.front)
-    buffer = ap (λ (x : Triple). x.B) e
-
-    at : (words c < c.front) ⊎ (c.front ≤ words c) → Permits c Shift
-    at (inl l) = absurd (not_empty i β (sym (buffer ∙ ap (range_with_len c.front) (let z : words c + 1 - c.front ≡ 0 = omega arith in z))))
-    at (inr l) =
-        let f : emptied c ≡ false = le-ltb (words c) c.front l in
-        (None, cond-false (finished c) _ _ (and_right (root_alone c.stack) (emptied c) f) ∙ cond-false (emptied c) _ _ f)
+permitted c k (Transition.shift {i = i} {β = β} same) e =
+    let (l, first) = counts_from c.front (words c + 1 - c.front) i β (ap (λ (x : Triple). x.B) e) in
+    let f : emptied c ≡ false = le-ltb (words c) c.front (omega arith) in
+    (None, cond-false (finished c) _ _ (and_right (root_alone c.stack) (emptied c) f) ∙ cond-false (emptied c) _ _ f)
 permitted c k (Transition.left_arc {i = i} {j = j} {l = l} {σ = σ} not same) e =
     subst (λ (d : Configuration). Permits d (LeftArc l)) stacked (left_permits (subst Kept (sym stacked) k) l not)
   where

@@ -1,20 +1,20 @@
 -- Arc-standard keeps the laws.
-use Rattle.std.proofs.Common.{◌≡◌, ℕ, ◌<◌, ◌≤◌, true, false, ◌↔◌, List, Some, None, Ok, Err, Option, sym, refl, arith}
+use Rattle.std.proofs.Common.{◌≡◌, ℕ, ◌<◌, ◌≤◌, true, false, List, Some, None, Ok, Option, sym, refl, arith}
 use lib.ListN.{length-replicate}
 use Rattle.std.proofs.lemmas.Bool.{both_ways, true≢false}
 use Rattle.treebank.specs.declared.arcs.Arc.{Arc}
 use Rattle.treebank.specs.declared.moves.Move.{Move}
 use Rattle.treebank.specs.declared.moves.Move.TheVariants.{Shift, LeftArc, RightArc, Reduce, NoArc}
 use Rattle.treebank.specs.declared.rows.Row.{Row}
-use Rattle.treebank.specs.declared.refusals.Refusal.TheVariants.{Finished, TooFewNodes}
+use Rattle.treebank.specs.declared.refusals.Refusal.TheVariants.{ForeignMove, Finished, TooFewNodes}
 use Rattle.treebank.specs.Tables.{arc, arc_into}
-use Rattle.transition.specs.declared.faults.Fault.{Fault}
-use Rattle.transition.specs.Laws.{Begins, Draws, Foreign, Laws}
+use Rattle.transition.specs.Verdicts.{refused}
+use Rattle.transition.specs.Laws.{Begins, Draws, Laws}
 use Rattle.arc_store.specs.Drawing.{bare}
 use Rattle.arc_store.proofs.Putting.{put_length, put_fresh, none_drawn}
 use Rattle.arc_standard_theory.specs.Configurations.{Configuration, words, start, finished, emptied, top_two, remaining}
 use Rattle.arc_standard_theory.specs.Moves.{own, between, left_arc, right_arc, verdict, next, arc_standard}
-use Rattle.arc_store.proofs.Verdicts.{impossible, passed, told_arc, Usual, usual_refusal, usual_test, usual_arc, not_foreign, usual_level, foreign_level}
+use Rattle.arc_store.proofs.Verdicts.{impossible, passed, told_arc, Usual, usual_refusal, usual_test, usual_arc, foreign_exactly, lowest_level}
 use Rattle.arc_standard_theory.proofs.Accepted.{Makes, makes}
 use Rattle.arc_standard_theory.proofs.Kept.{kept}
 
@@ -47,19 +47,12 @@ usual c (RightArc l) o = usual_test Finished (finished c) _ (λ e. omega arith) 
 usual c Reduce o = absurd (true≢false (sym o))
 usual c NoArc o = absurd (true≢false (sym o))
 
-foreign : (c : Configuration) (m : Move) → Foreign (verdict c m) ↔ (own m ≡ false)
-foreign c Shift = (λ f. absurd (not_foreign _ (usual c Shift refl) f), λ e. absurd (true≢false e))
-foreign c (LeftArc l) = (λ f. absurd (not_foreign _ (usual c (LeftArc l) refl) f), λ e. absurd (true≢false e))
-foreign c (RightArc l) = (λ f. absurd (not_foreign _ (usual c (RightArc l) refl) f), λ e. absurd (true≢false e))
-foreign c Reduce = (λ f. refl, λ e. refl)
-foreign c NoArc = (λ f. refl, λ e. refl)
-
-levels : (c : Configuration) (m : Move) (f : Fault) → verdict c m ≡ Err f → f.level ≤ 0
-levels c Shift f e = usual_level _ f (usual c Shift refl) e
-levels c (LeftArc l) f e = usual_level _ f (usual c (LeftArc l) refl) e
-levels c (RightArc l) f e = usual_level _ f (usual c (RightArc l) refl) e
-levels c Reduce f e = foreign_level f e
-levels c NoArc f e = foreign_level f e
+others : (c : Configuration) (m : Move) → own m ≡ false → verdict c m ≡ refused ForeignMove
+others c Shift o = absurd (true≢false o)
+others c (LeftArc l) o = absurd (true≢false o)
+others c (RightArc l) o = absurd (true≢false o)
+others c Reduce o = refl
+others c NoArc o = refl
 
 stops : (c : Configuration) (m : Move) (a : Option Arc) → finished c ≡ true → verdict c m ≡ Ok a → ⊥
 stops c Shift a e v = both_ways (finished c) (passed Finished (finished c) _ v).0 e
@@ -76,7 +69,7 @@ lawful = record {
   drawing = λ {c} m a h v. draws (makes c m a v) refl (kept h).small;
   falling = λ {c} m a h v. (falls (makes c m a v)).1;
   stopping = λ {c} m a h e v. stops c m a e v;
-  foreign = foreign;
-  levels = levels;
+  foreign = foreign_exactly arc_standard usual others;
+  levels = lowest_level arc_standard usual others;
   numbers = (omega arith, omega arith);
 }

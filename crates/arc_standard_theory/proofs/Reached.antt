@@ -1,5 +1,5 @@
 -- What is viable is what can be reached.
-use Rattle.std.proofs.Common.{◌≡◌, ℕ, ◌≤◌, Bool, true, false, cond, ◌⊎◌, List, [], ◌∷◌, length, None, Option, sym, refl, ap, subst, inl, inr, arith}
+use Rattle.std.proofs.Common.{◌≡◌, ℕ, ◌≤◌, true, ◌⊎◌, List, [], ◌∷◌, length, None, Option, sym, refl, ap, subst, inl, inr, arith}
 use mathlib.Core.List.Memᴰ
 use mathlib.Core.List.{Memᴰ}
 use Rattle.std.proofs.lemmas.Bool.{eqb-true, ltb-true, and_parts, cond-true, cond-false}
@@ -14,6 +14,7 @@ use Rattle.treebank.proofs.Goodness.{table_fits, not_good}
 use Rattle.transition.proofs.Forests.{arcs_forest}
 use Rattle.arc_store.specs.Drawing.{put}
 use Rattle.arc_store.proofs.Putting.{put_length, put_fresh}
+use Rattle.arc_store.proofs.Verdicts.{none_either}
 use Rattle.guidance.specs.Guides.{Guides}
 use Rattle.guidance.specs.Viability.{Viability, ViableExactly}
 use Rattle.guidance.proofs.Viably.{viable_guides, viable_exactly}
@@ -101,14 +102,10 @@ viability = record {
   on = λ {c} w h good u x. on_any c.stack c.front c.rows w good (kept h) u x;
 }
 
-either : (b : Bool) {r : Option Move} → r ≡ None → cond b None r ≡ None
-either true e = refl
-either false e = e
-
 -- the law of advice
 pub guides : Guides arc_standard start
 guides = viable_guides lawful viability (λ c w e. cond-true (finished c) None _ e)
-    (λ c w f. either (finished c) (cond-false (is_good_table (words c) w) _ None (not_good (words c) w f)))
+    (λ c w f. none_either (finished c) (cond-false (is_good_table (words c) w) _ None (not_good (words c) w f)))
 
 -- reachable, viable and made by the advice are one
 pub exactly : ViableExactly arc_standard start Viable

@@ -1,5 +1,6 @@
 -- What arc-standard advises for a wanted table: the first line that fits.
-use Rattle.std.specs.Prelude.{ℕ, zero, suc, Bool, true, cond, not, ◌&&◌, ◌||◌, List, is_some, Some, None, Option}
+use Rattle.std.specs.Prelude.{ℕ, Bool, cond, not, ◌||◌, List, is_some, Some, None, Option}
+use Rattle.std.specs.List.{list_all, range_with_len}
 use Rattle.treebank.specs.declared.arcs.Arc.{Arc}
 use Rattle.treebank.specs.declared.moves.Move.{Move}
 use Rattle.treebank.specs.declared.moves.Move.TheVariants.{Shift, LeftArc, RightArc}
@@ -13,8 +14,7 @@ serves drawn w j d = not (is_some (arc_between w j d)) || is_some (arc_into draw
 
 -- among the first k words, each that the table puts directly under j has its arc
 abbrev pub served : List Row → List Row → ℕ → ℕ → Bool
-served drawn w j zero = true
-served drawn w j (suc k) = served drawn w j k && serves drawn w j (suc k)
+served drawn w j k = list_all (serves drawn w j) (range_with_len 1 k)
 
 -- Shift if the buffer has a word
 abbrev pub shift_advice : Configuration → Option Move

@@ -1,6 +1,6 @@
 -- The tests permit exactly a fresh arc.
-use Rattle.std.proofs.Common.{◌≡◌, ℕ, ◌≤◌, Bool, true, false, cond, eqb, ltb, ◌↔◌, List, length, is_some, Some, None, Ok, Err, Option, Result, sym, refl, ap, ◌∙◌, arith}
-use Rattle.std.proofs.lemmas.Bool.{eqb-false, ne_eqb, ltb-false, le-ltb, or_parts, or_from, cond-true, cond-false, both_ways}
+use Rattle.std.proofs.Common.{◌≡◌, ℕ, Bool, true, false, cond, eqb, ltb, ◌↔◌, List, length, is_some, Some, None, Ok, Err, Option, Result, sym, refl, ap, ◌∙◌, arith}
+use Rattle.std.proofs.lemmas.Bool.{eqb-false, ne_eqb, ltb-false, le-ltb, or_parts, or_from, cond-false, both_ways}
 use Rattle.treebank.specs.declared.arcs.Arc.{Arc}
 use Rattle.treebank.specs.declared.rows.Row.{Row}
 use Rattle.treebank.specs.declared.refusals.Refusal.{Refusal}
@@ -64,16 +64,3 @@ module _ (w : List Row) (a : Arc) where
   -- an answer that is the tests' tells what is fresh
   pub told_fresh : (r : Result Arc Refusal) → r ≡ arc_verdict w a → (r ≡ Ok a) ↔ Fresh (length w) (table_arcs w) a
   told_fresh r e = (λ t. verdict_fresh (sym e ∙ t), λ f. e ∙ fresh_verdict f)
-
-  -- the last two tests decide about nodes of the sentence, the root apart
-  module _ (head : a.head ≤ length w) (word : a.word ≤ length w) (below : a.word ≡ 0 → ⊥) where
-    behind : arc_verdict w a ≡ cond (is_some (arc_into w a.word)) (Err HasHead) (cond (circles w a) (Err WouldCircle) (Ok a))
-    behind =
-        cond-false (outside w a) _ _ (or_from _ _ (le-ltb (length w) a.head head) (le-ltb (length w) a.word word))
-        ∙ cond-false (eqb a.word 0) _ _ (ne_eqb a.word 0 below)
-
-    pub has_head : is_some (arc_into w a.word) ≡ true → Err HasHead ≡ arc_verdict w a
-    has_head t = sym (behind ∙ cond-true (is_some (arc_into w a.word)) _ _ t)
-
-    pub may_draw : is_some (arc_into w a.word) ≡ false → (a.head ≡ a.word → ⊥) → comes_to w a.word a.head ≡ false → Ok a ≡ arc_verdict w a
-    may_draw t n u = sym (behind ∙ cond-false (is_some (arc_into w a.word)) _ _ t ∙ cond-false (circles w a) _ _ (or_from _ _ (ne_eqb a.head a.word n) u))

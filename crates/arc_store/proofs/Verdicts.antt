@@ -1,6 +1,8 @@
--- What the verdicts of systems over the arc store have in common.
-use Rattle.std.proofs.Common.{◌≡◌, ℕ, ◌≤◌, Bool, true, false, cond, eqb, List, length, is_some, Some, None, Ok, Err, Option, Result, sym, refl, ap, ◌∙◌, arith}
+-- What the verdicts and the advice of systems over the arc store have in common.
+use Rattle.std.proofs.Common.{◌≡◌, ℕ, ◌≤◌, Bool, true, false, cond, eqb, ◌↔◌, List, length, is_some, Some, None, Ok, Err, Option, Result, sym, refl, ap, ◌∙◌, subst, arith}
+use Rattle.std.proofs.lemmas.Bool.{both_ways}
 use Rattle.treebank.specs.declared.arcs.Arc.{Arc}
+use Rattle.treebank.specs.declared.moves.Move.{Move}
 use Rattle.treebank.specs.declared.rows.Row.{Row}
 use Rattle.treebank.specs.declared.refusals.Refusal.{Refusal}
 use Rattle.treebank.specs.declared.refusals.Refusal.TheVariants.{ForeignMove, TooFewNodes, IntoRoot, HasHead, WouldCircle}
@@ -9,7 +11,7 @@ use Rattle.treebank.specs.Tables.{arc_into, table_arcs}
 use Rattle.treebank.specs.Trees.{Fresh}
 use Rattle.treebank.proofs.Said.{into_word, into_mem, mem_into}
 use Rattle.transition.specs.declared.faults.Fault.{Fault}
-use Rattle.transition.specs.Meaning.{Verdict, fault}
+use Rattle.transition.specs.Meaning.{Meaning, Verdict, fault}
 use Rattle.transition.specs.Verdicts.{refused, drawn}
 use Rattle.transition.specs.Laws.{ArcInto, Foreign}
 use Rattle.arc_store.specs.Drawing.{outside, circles, arc_verdict}
@@ -65,13 +67,34 @@ usual_arc w a =
     (usual_stored HasHead (is_some (arc_into w a.word)) _ (λ e. omega arith)
     (usual_stored WouldCircle (circles w a) _ (λ e. omega arith) tt)))
 
-pub not_foreign : (v : Verdict) → Usual v → Foreign v → ⊥
+not_foreign : (v : Verdict) → Usual v → Foreign v → ⊥
 not_foreign (Ok a) u f = f
 not_foreign (Err f) u e = u.1 e
 
-pub usual_level : (v : Verdict) (f : Fault) → Usual v → v ≡ Err f → f.level ≤ 0
+usual_level : (v : Verdict) (f : Fault) → Usual v → v ≡ Err f → f.level ≤ 0
 usual_level (Ok a) f u e = absurd (let z : ◌≡◌ {A = ℕ} 0 1 = cc in omega arith)
 usual_level (Err g) f u e = let same : g ≡ f = cc in let l = u.0 in omega (arith, ap (λ (x : Fault). x.level) same)
 
-pub foreign_level : (f : Fault) → ◌≡◌ {A = Verdict} (refused ForeignMove) (Err f) → f.level ≤ 0
+foreign_level : (f : Fault) → ◌≡◌ {A = Verdict} (refused ForeignMove) (Err f) → f.level ≤ 0
 foreign_level f e = let same : fault ForeignMove 0 ≡ f = cc in omega (arith, ap (λ (x : Fault). x.level) same)
+
+-- a system that refuses its own moves as usual, and the others as foreign
+module _ (M : Meaning) (usual : (c : M.Config) (m : Move) → M.own m ≡ true → Usual (M.verdict c m)) (others : (c : M.Config) (m : Move) → M.own m ≡ false → M.verdict c m ≡ refused ForeignMove) where
+  pub foreign_exactly : (c : M.Config) (m : Move) → Foreign (M.verdict c m) ↔ (M.own m ≡ false)
+  foreign_exactly c m = at (M.own m) refl
+    where
+      at : (b : Bool) → M.own m ≡ b → Foreign (M.verdict c m) ↔ (M.own m ≡ false)
+      at true o = (λ f. absurd (not_foreign _ (usual c m o) f), λ e. absurd (both_ways (M.own m) e o))
+      at false o = (λ f. o, λ e. subst Foreign (sym (others c m o)) refl)
+
+  pub lowest_level : (c : M.Config) (m : Move) (f : Fault) → M.verdict c m ≡ Err f → f.level ≤ 0
+  lowest_level c m f e = at (M.own m) refl
+    where
+      at : (b : Bool) → M.own m ≡ b → f.level ≤ 0
+      at true o = usual_level _ f (usual c m o) e
+      at false o = foreign_level f (sym (others c m o) ∙ e)
+
+-- no advice behind a test that leads to none
+pub none_either : (b : Bool) {o : Option Move} → o ≡ None → cond b None o ≡ None
+none_either true e = refl
+none_either false e = e

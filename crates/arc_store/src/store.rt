@@ -7,6 +7,7 @@ use treebank::words::WordCount;
 #[derive(Drop)]
 pub struct ArcStore {
     words: WordCount,
+    // An array beside its length, and no `ArrayVec`: the length is a checked type of its own, which is handed on.
     rows: [Row; 100],
     ghost room: { length rows ≡ 100 },
 }

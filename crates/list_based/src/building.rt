@@ -26,10 +26,8 @@ pub fn build_forest(heap: Global, table: &[Row]) -> Result<Vec<Move>, BuildError
     ensures class { ReachesForests }
     ensures exact { ViableExactly list_based start Viable }
 {
-    let words = match WordCount::new(table.len()) {
-        Ok(words) => words,
-        Err(why) => return Err(BuildError::Refused(why)),
-    };
-    let mut system = ListBased::new(words);
-    build(heap, &mut system, table)
+    // One function for each system: a generic one needs a trait with the class, its laws and a constructor, which is longer,
+    // and its clauses say less plainly what each system builds.
+    let words = WordCount::new(table.len())?;
+    build(heap, &mut ListBased::new(words), table)
 }

@@ -13,6 +13,7 @@ use Rattle.transition.specs.Meaning.{Verdict}
 use Rattle.transition.specs.Verdicts.{drawn}
 use Rattle.transition.specs.Runs.{Arises}
 use Rattle.arc_store.specs.Drawing.{put}
+use Rattle.arc_store.proofs.Counting.{counting_next, buffer_next, counts_from}
 use Rattle.arc_store.proofs.Freshness.{fresh_verdict}
 use Rattle.arc_store.proofs.Putting.{put_length, put_fresh}
 use Rattle.arc_store.proofs.Verdicts.{impossible}
@@ -29,14 +30,6 @@ counting_join a (suc k) m =
     let e : suc k + m ≡ suc (k + m) = omega arith in
     let f : a + 1 + k ≡ a + suc k = omega arith in
     ap (range_with_len a) e ∙ ap (λ (l : List ℕ). a ∷ l) (counting_join (a + 1) k m ∙ ap (λ (x : ℕ). range_with_len (a + 1) k ++ range_with_len x m) f)
-
-counting_next : (b k : ℕ) → 1 ≤ k → range_with_len b k ≡ b ∷ range_with_len (b + 1) (k - 1)
-counting_next b zero l = absurd (omega arith)
-counting_next b (suc k) l = let e : k ≡ suc k - 1 = omega arith in ap (λ (x : ℕ). b ∷ range_with_len (b + 1) x) e
-
--- the buffer without its first word
-buffer_next : (n b : ℕ) → b ≤ n → range_with_len b (n + 1 - b) ≡ b ∷ range_with_len (b + 1) (n + 1 - (b + 1))
-buffer_next n b l = counting_next b (n + 1 - b) (omega arith) ∙ (let e : n + 1 - b - 1 ≡ n + 1 - (b + 1) = omega arith in ap (λ (x : ℕ). b ∷ range_with_len (b + 1) x) e)
 
 -- the first list without its last node
 first_last : (k : ℕ) → 1 ≤ k → range_with_len 0 k ≡ range_with_len 0 (k - 1) then (k - 1)
@@ -94,20 +87,9 @@ accepted (Makes.pass {b = b} {k = k} {t = t} {w = w} h g) kept = moved_on b k t 
 abbrev pub Permits : Configuration → Move → Type 0
 Permits c m = (a : Option Arc) × (verdict c m ≡ Ok a)
 
-positive : (x : ℕ) → (x ≡ 0 → ⊥) → 1 ≤ x
-positive zero not = absurd (not refl)
-positive (suc x) not = omega arith
-
-not_empty : (i : ℕ) (β : List ℕ) → ◌≡◌ {A = List ℕ} [] (i ∷ β) → ⊥
-not_empty i β e = let z : ◌≡◌ {A = ℕ} 0 1 = cc in omega arith
-
 -- a buffer with a first word
 buffer_first : (c : Configuration) (j : ℕ) (β : List ℕ) → j ∷ β ≡ range_with_len c.front (words c + 1 - c.front) → (c.front ≤ words c) × (j ≡ c.front)
-buffer_first c j β e = at (cases_lt (words c) c.front)
-  where
-    at : (words c < c.front) ⊎ (c.front ≤ words c) → (c.front ≤ words c) × (j ≡ c.front)
-    at (inl l) = absurd (not_empty j β (sym (e ∙ ap (range_with_len c.front) (let z : words c + 1 - c.front ≡ 0 = omega arith in z))))
-    at (inr l) = (l, let z = e ∙ buffer_next (words c) c.front l in cc)
+buffer_first c j β e = let (l, f) = counts_from c.front (words c + 1 - c.front) j β e in (omega arith, f)
 
 -- a first list with a last node
 list_last : (k : ℕ) (first : List ℕ) (i : ℕ) → first then i ≡ range_with_len 0 k → (1 ≤ k) × (i ≡ k - 1)
@@ -118,7 +100,10 @@ list_last k first i e = at (cases_lt 0 k)
 
     at : (0 < k) ⊎ (k ≤ 0) → (1 ≤ k) × (i ≡ k - 1)
     at (inl l) = (l, let z = turned ∙ ap reverse (first_last k l) ∙ reverse-append (range_with_len 0 (k - 1)) ((k - 1) ∷ []) in cc)
-    at (inr l) = absurd (not_empty i (reverse first) (sym (turned ∙ ap (λ (x : ℕ). reverse (range_with_len 0 x)) (let z : k ≡ 0 = omega arith in z))))
+    at (inr l) =
+        let none : k ≡ 0 = omega arith in
+        let empty = turned ∙ ap (λ (x : ℕ). reverse (range_with_len 0 x)) none in
+        absurd (let z : ◌≡◌ {A = ℕ} 0 1 = cc in omega arith)
 
 -- a fresh arc is permitted, and No-Arc and Shift are
 module _ (c : Configuration) (h : c.front ≤ words c) where
@@ -151,7 +136,7 @@ permitted c k (Transition.left_arc {i = i} {j = j} {l = l} {first = first} {β =
     let low = k.lists in (
       Some (left_arc c l),
       left_permits c h g l (record {
-        joins = record { word = (omega (arith, positive i not), omega arith); head = h };
+        joins = record { word = (omega (arith, not), omega arith); head = h };
         headless = subst (λ (as' : List Arc). HeadlessIn as' (last c)) drew (subst (HeadlessIn before) up free);
         apart = λ z. omega arith;
         not_below = λ x. above (subst (λ (y : ℕ). Above before y j) (sym up) (subst (Above before (last c)) (sym at) (subst (λ (as' : List Arc). Above as' (last c) c.front) (sym drew) x)));

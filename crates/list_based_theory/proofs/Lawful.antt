@@ -1,19 +1,18 @@
 -- The list-based system keeps the laws.
-use Rattle.std.proofs.Common.{◌≡◌, ℕ, ◌+◌, ◌-◌, ◌<◌, ◌≤◌, true, false, cond, ◌↔◌, Ok, Err, Option, sym, refl, ap, ◌∙◌, arith}
+use Rattle.std.proofs.Common.{◌≡◌, ℕ, ◌+◌, ◌-◌, ◌<◌, ◌≤◌, true, false, cond, Ok, Option, sym, refl, ap, arith}
 use lib.ListN.{length-replicate}
 use Rattle.std.proofs.lemmas.Bool.{both_ways, true≢false}
 use Rattle.treebank.specs.declared.arcs.Arc.{Arc}
 use Rattle.treebank.specs.declared.moves.Move.{Move}
 use Rattle.treebank.specs.declared.moves.Move.TheVariants.{Shift, LeftArc, RightArc, Reduce, NoArc}
-use Rattle.treebank.specs.declared.refusals.Refusal.TheVariants.{Finished, TooFewNodes}
+use Rattle.treebank.specs.declared.refusals.Refusal.TheVariants.{ForeignMove, Finished, TooFewNodes}
 use Rattle.treebank.specs.Tables.{arc, arc_into}
-use Rattle.transition.specs.declared.faults.Fault.{Fault}
 use Rattle.transition.specs.Meaning.{Verdict}
 use Rattle.transition.specs.Verdicts.{refused}
-use Rattle.transition.specs.Laws.{Begins, Draws, Foreign, Laws}
+use Rattle.transition.specs.Laws.{Begins, Draws, Laws}
 use Rattle.arc_store.specs.Drawing.{bare}
 use Rattle.arc_store.proofs.Putting.{put_length, put_fresh, none_drawn}
-use Rattle.arc_store.proofs.Verdicts.{impossible, passed, told_arc, Usual, usual_test, usual_arc, not_foreign, usual_level, foreign_level}
+use Rattle.arc_store.proofs.Verdicts.{impossible, passed, told_arc, Usual, usual_test, usual_arc, foreign_exactly, lowest_level}
 use Rattle.list_based_theory.specs.Configurations.{Configuration, words, start, finished, emptied, ceiling, remaining}
 use Rattle.list_based_theory.specs.Moves.{own, left_arc, right_arc, verdict, next, list_based}
 use Rattle.list_based_theory.proofs.Accepted.{Makes, makes}
@@ -55,22 +54,12 @@ usual c (RightArc l) o = usual_both c _ (usual_arc c.rows (right_arc c l))
 usual c Reduce o = absurd (true≢false (sym o))
 usual c NoArc o = usual_both c _ tt
 
-own_not_foreign : (c : Configuration) (m : Move) → own m ≡ true → Foreign (verdict c m) ↔ (own m ≡ false)
-own_not_foreign c m o = (λ f. absurd (not_foreign _ (usual c m o) f), λ e. absurd (true≢false (sym o ∙ e)))
-
-foreign : (c : Configuration) (m : Move) → Foreign (verdict c m) ↔ (own m ≡ false)
-foreign c Shift = own_not_foreign c Shift refl
-foreign c (LeftArc l) = own_not_foreign c (LeftArc l) refl
-foreign c (RightArc l) = own_not_foreign c (RightArc l) refl
-foreign c Reduce = (λ f. refl, λ e. refl)
-foreign c NoArc = own_not_foreign c NoArc refl
-
-levels : (c : Configuration) (m : Move) (f : Fault) → verdict c m ≡ Err f → f.level ≤ 0
-levels c Shift f e = usual_level _ f (usual c Shift refl) e
-levels c (LeftArc l) f e = usual_level _ f (usual c (LeftArc l) refl) e
-levels c (RightArc l) f e = usual_level _ f (usual c (RightArc l) refl) e
-levels c Reduce f e = foreign_level f e
-levels c NoArc f e = usual_level _ f (usual c NoArc refl) e
+others : (c : Configuration) (m : Move) → own m ≡ false → verdict c m ≡ refused ForeignMove
+others c Shift o = absurd (true≢false o)
+others c (LeftArc l) o = absurd (true≢false o)
+others c (RightArc l) o = absurd (true≢false o)
+others c Reduce o = refl
+others c NoArc o = absurd (true≢false o)
 
 stops : (c : Configuration) (m : Move) (a : Option Arc) → finished c ≡ true → verdict c m ≡ Ok a → ⊥
 stops c Shift a e v = both_ways (finished c) (passed Finished (finished c) _ v).0 e
@@ -87,7 +76,7 @@ lawful = record {
   drawing = λ {c} m a h v. draws (makes c m a v) refl (kept h).small;
   falling = λ {c} m a h v. falls c (next c m) (kept h) (same_words (makes c m a v));
   stopping = λ {c} m a h e v. stops c m a e v;
-  foreign = foreign;
-  levels = levels;
+  foreign = foreign_exactly list_based usual others;
+  levels = lowest_level list_based usual others;
   numbers = (omega arith, omega arith);
 }

@@ -1,5 +1,5 @@
 -- What is viable is what can be reached.
-use Rattle.std.proofs.Common.{◌≡◌, ℕ, ◌+◌, ◌-◌, ◌≤◌, Bool, true, false, cond, ◌⊎◌, List, length, None, Option, refl, ap, ◌∙◌, inl, inr, arith}
+use Rattle.std.proofs.Common.{◌≡◌, ℕ, ◌+◌, ◌-◌, ◌≤◌, true, ◌⊎◌, List, length, None, Option, ap, ◌∙◌, inl, inr, arith}
 use mathlib.Core.List.Memᴰ
 use Rattle.std.proofs.lemmas.Bool.{ltb-true, cond-true, cond-false}
 use Rattle.treebank.specs.declared.arcs.Arc.{Arc}
@@ -12,6 +12,7 @@ use Rattle.treebank.proofs.Goodness.{table_fits, not_good}
 use Rattle.transition.proofs.Forests.{arcs_forest}
 use Rattle.arc_store.specs.Drawing.{put}
 use Rattle.arc_store.proofs.Putting.{put_fresh}
+use Rattle.arc_store.proofs.Verdicts.{none_either}
 use Rattle.guidance.specs.Guides.{Guides}
 use Rattle.guidance.specs.Viability.{Viability, ViableExactly}
 use Rattle.guidance.proofs.Viably.{viable_guides, viable_exactly}
@@ -78,14 +79,10 @@ viability = record {
   on = λ {c} w h good u x. on_any c w good (kept h) u x;
 }
 
-either : (b : Bool) {r : Option Move} → r ≡ None → cond b None r ≡ None
-either true e = refl
-either false e = e
-
 -- the law of advice
 pub guides : Guides list_based start
 guides = viable_guides lawful viability (λ c w e. cond-true (finished c) None _ e)
-    (λ c w f. either (finished c) (cond-false (is_good_table (words c) w) _ None (not_good (words c) w f)))
+    (λ c w f. none_either (finished c) (cond-false (is_good_table (words c) w) _ None (not_good (words c) w f)))
 
 -- reachable, viable and made by the advice are one
 pub exactly : ViableExactly list_based start Viable

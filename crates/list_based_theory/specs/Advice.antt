@@ -1,20 +1,16 @@
 -- What the list-based system advises for a wanted table: the first line that fits.
-use Rattle.std.specs.Prelude.{ℕ, zero, suc, Bool, false, cond, ◌||◌, List, is_some, Some, None, Option}
+use Rattle.std.specs.Prelude.{ℕ, Bool, cond, List, Some, None, Option}
+use Rattle.std.specs.List.{list_any, range_with_len}
 use Rattle.treebank.specs.declared.arcs.Arc.{Arc}
 use Rattle.treebank.specs.declared.moves.Move.{Move}
 use Rattle.treebank.specs.declared.moves.Move.TheVariants.{Shift, LeftArc, RightArc, NoArc}
 use Rattle.treebank.specs.declared.rows.Row.{Row}
-use Rattle.treebank.specs.Tables.{is_good_table, arc_between}
+use Rattle.treebank.specs.Tables.{is_good_table, arc_between, joins}
 use Rattle.list_based_theory.specs.Configurations.{Configuration, words, finished, emptied, last}
-
--- the table joins the two nodes, one way or the other
-abbrev pub joins : List Row → ℕ → ℕ → Bool
-joins w j x = is_some (arc_between w x j) || is_some (arc_between w j x)
 
 -- the table joins j to one of the first k nodes
 abbrev pub joins_before : List Row → ℕ → ℕ → Bool
-joins_before w j zero = false
-joins_before w j (suc k) = joins_before w j k || joins w j k
+joins_before w j k = list_any (λ x. joins w x j) (range_with_len 0 k)
 
 -- with i last in the first list and j first in the buffer: No-Arc if the table joins j to a node before i, else Shift
 abbrev pub pass_advice : List Row → ℕ → ℕ → Option Move

@@ -4,6 +4,7 @@ ghost use Rattle.arc_eager.specs.Held.{held, stack_of};
 
 use super::ArcEager;
 use arc_store::store::ArcStore;
+use arrayvec::ArrayVec;
 use treebank::rows::Row;
 use treebank::words::WordCount;
 
@@ -12,9 +13,10 @@ impl ArcEager {
     pub fn new(words: WordCount) -> ArcEager
         ensures { held result ≡ start words.count }
     {
+        let mut stack = ArrayVec::new();
+        stack.push(0);
         ArcEager {
-            stack: [0; 101],
-            depth: 1,
+            stack,
             done: 0,
             arcs: ArcStore::new(words),
         }
@@ -24,7 +26,7 @@ impl ArcEager {
     pub fn stack(&self) -> &[u8]
         ensures { reverse result.now ≡ stack_of self.now }
     {
-        &self.stack[0..self.depth]
+        self.stack.as_slice()
     }
 
     /// The first word of the buffer, or the number behind the last word where the buffer is empty.

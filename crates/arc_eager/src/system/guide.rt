@@ -1,7 +1,7 @@
 ghost use Rattle.std.specs.Prelude.{◌≡◌};
 ghost use Rattle.treebank.specs.Tables.{arc_between};
 ghost use Rattle.arc_eager_theory.specs.Configurations.{front, top, under};
-ghost use Rattle.arc_eager_theory.specs.Advice.{joins, joins_any, reduce_advice, right_advice, left_advice};
+ghost use Rattle.arc_eager_theory.specs.Advice.{joins_any, reduce_advice, right_advice, left_advice};
 ghost use Rattle.arc_eager.specs.Held.{held, stack_of};
 ghost use Rattle.arc_eager_theory.proofs.Reached;
 
@@ -10,32 +10,24 @@ use guidance::guided::Guided;
 use transition::system::System;
 use treebank::moves::Move;
 use treebank::rows::Row;
-use treebank::tables::{arc_between, is_good_table};
-
-/// Whether the table joins the two nodes, as head and dependent or as dependent and head.
-fn is_joined(table: &[Row], word: u8, node: u8) -> bool
-    ensures { result ≡ joins table.now word node }
-{
-    arc_between(table, word, node).is_some() || arc_between(table, node, word).is_some()
-}
+use treebank::tables::{arc_between, is_good_table, is_joined};
 
 impl ArcEager {
     /// Whether the table joins the word to a node under the top of the stack.
     fn joins_deeper(&self, table: &[Row], word: u8) -> bool
         ensures { result ≡ joins_any table.now word (under (stack_of self.now)) }
     {
-        for k in 0..self.depth.saturating_sub(1) {
-            if is_joined(table, word, self.stack[k]) {
-                return true;
-            }
-        }
-        false
+        self.stack
+            .iter()
+            .rev()
+            .skip(1)
+            .any(|node| is_joined(table, word, *node))
     }
 
     fn reduce_advice(&self, table: &[Row]) -> Option<Move>
         ensures { result ≡ reduce_advice (held self.now) table.now }
     {
-        if self.arcs.arc_into(self.top()).is_some() && self.joins_deeper(table, self.done + 1) {
+        if self.arcs.arc_into(self.top()).is_some() && self.joins_deeper(table, self.front()) {
             return Some(Move::Reduce);
         }
         Some(Move::Shift)
@@ -44,7 +36,7 @@ impl ArcEager {
     fn right_advice(&self, table: &[Row]) -> Option<Move>
         ensures { result ≡ right_advice (held self.now) table.now (arc_between table.now (top (stack_of self.now)) (front (held self.now))) }
     {
-        match arc_between(table, self.top(), self.done + 1) {
+        match arc_between(table, self.top(), self.front()) {
             Some(arc) => Some(Move::RightArc(arc.label)),
             None => self.reduce_advice(table),
         }
@@ -54,7 +46,7 @@ impl ArcEager {
     fn left_advice(&self, table: &[Row]) -> Option<Move>
         ensures { result ≡ left_advice (held self.now) table.now (arc_between table.now (front (held self.now)) (top (stack_of self.now))) }
     {
-        match arc_between(table, self.done + 1, self.top()) {
+        match arc_between(table, self.front(), self.top()) {
             Some(arc) => Some(Move::LeftArc(arc.label)),
             None => self.right_advice(table),
         }
@@ -67,10 +59,7 @@ impl Guided for ArcEager {
     ghost guides = { λ r s. Reached.guides };
 
     fn advice(&self, table: &[Row]) -> Option<Move> {
-        if self.finished() {
-            return None;
-        }
-        if !is_good_table(self.words(), table) {
+        if self.finished() || !is_good_table(self.words(), table) {
             return None;
         }
         self.left_advice(table)

@@ -1,9 +1,10 @@
 ghost use Rattle.std.specs.Prelude.{◌≡◌, MatchResult};
 ghost use Rattle.transition.specs.Runs.{Arises};
-ghost use Rattle.arc_eager_theory.specs.Configurations.{start, top};
+ghost use Rattle.arc_eager_theory.specs.Configurations.{start, finished, top};
 ghost use Rattle.arc_eager_theory.specs.Moves.{arc_eager, verdict, next};
 ghost use Rattle.arc_eager_theory.specs.Nivre.{AsDefined};
-ghost use Rattle.arc_eager.specs.Held.{held, stack_of, Open, Stepped};
+ghost use Rattle.arc_store.specs.Stepping.{Open, Stepped};
+ghost use Rattle.arc_eager.specs.Held.{held, stack_of};
 ghost use Rattle.arc_eager_theory.proofs.Lawful.{lawful};
 
 use super::ArcEager;
@@ -15,19 +16,18 @@ use treebank::refusals::Refusal;
 use treebank::words::WordCount;
 
 impl ArcEager {
-    /// The top of the stack.
+    /// The top of the stack, and the root where the stack is empty.
     pub(super) fn top(&self) -> u8
         ensures { result ≡ top (stack_of self.now) }
     {
-        if self.depth == 0 {
-            return 0;
-        }
-        self.stack[self.depth - 1]
+        self.stack.last().copied().unwrap_or(0)
     }
 
     /// `Finished` where the buffer is empty.
+    // Each system's own: one over `System` is called from the impl's own `step`, and such a cycle of calls gets no proof;
+    // one that is handed the answer would say no more than the test.
     fn unfinished(&self) -> Result<(), Refusal>
-        ensures { Open (held self.now) result }
+        ensures { Open (finished (held self.now)) result }
     {
         if self.finished() {
             return Err(Refusal::Finished);
@@ -36,60 +36,55 @@ impl ArcEager {
     }
 
     fn shift(&mut self) -> Result<Option<Arc>, Fault>
-        ensures { Stepped self.old Move.Shift result self.new }
+        ensures { Stepped arc_eager held self.old Move.Shift result self.new }
     {
         self.unfinished()?;
-        self.stack[self.depth] = self.done + 1;
-        self.depth += 1;
+        let word = self.front();
+        self.stack.push(word);
         self.done += 1;
         Ok(None)
     }
 
     fn left_arc(&mut self, label: u8) -> Result<Option<Arc>, Fault>
-        ensures { Stepped self.old (Move.LeftArc label) result self.new }
+        ensures { Stepped arc_eager held self.old (Move.LeftArc label) result self.new }
     {
         self.unfinished()?;
-        let i = self.top();
+        let (i, j) = (self.top(), self.front());
         let arc = self.arcs.draw(Arc {
-            head: self.done + 1,
+            head: j,
             label,
             word: i,
         })?;
-        self.depth = self.depth.saturating_sub(1);
+        self.stack.pop();
         Ok(Some(arc))
     }
 
     fn right_arc(&mut self, label: u8) -> Result<Option<Arc>, Fault>
-        ensures { Stepped self.old (Move.RightArc label) result self.new }
+        ensures { Stepped arc_eager held self.old (Move.RightArc label) result self.new }
     {
         self.unfinished()?;
-        let i = self.top();
+        let (i, j) = (self.top(), self.front());
         let arc = self.arcs.draw(Arc {
             head: i,
             label,
-            word: self.done + 1,
+            word: j,
         })?;
-        self.stack[self.depth] = self.done + 1;
-        self.depth += 1;
+        self.stack.push(j);
         self.done += 1;
         Ok(Some(arc))
     }
 
     fn reduce(&mut self) -> Result<Option<Arc>, Fault>
-        ensures { Stepped self.old Move.Reduce result self.new }
+        ensures { Stepped arc_eager held self.old Move.Reduce result self.new }
     {
         self.unfinished()?;
-        match self.arcs.arc_into(self.top()) {
-            Some(_) => {
-                self.depth = self.depth.saturating_sub(1);
-                Ok(None)
-            }
-            None => Err(Fault::from(Refusal::HasNoHead)),
-        }
+        self.arcs.arc_into(self.top()).ok_or(Refusal::HasNoHead)?;
+        self.stack.pop();
+        Ok(None)
     }
 
     fn make(&mut self, m: Move) -> Result<Option<Arc>, Fault>
-        ensures { Stepped self.old m result self.new }
+        ensures { Stepped arc_eager held self.old m result self.new }
     {
         match m {
             Move::Shift => self.shift(),
@@ -128,7 +123,7 @@ impl System for ArcEager {
 
     fn remaining(&self) -> u16 {
         let buffer = self.arcs.words().get() - self.done;
-        (2 * buffer as u16 + self.depth as u16).saturating_sub(1)
+        (2 * buffer as u16 + self.stack.len() as u16).saturating_sub(1)
     }
 
     fn permission(&self, m: Move) -> Result<Option<Arc>, Fault> {
@@ -139,15 +134,13 @@ impl System for ArcEager {
             }
             Move::Reduce => {
                 self.unfinished()?;
-                return match self.arcs.arc_into(self.top()) {
-                    Some(_) => Ok(None),
-                    None => Err(Fault::from(Refusal::HasNoHead)),
-                };
+                self.arcs.arc_into(self.top()).ok_or(Refusal::HasNoHead)?;
+                return Ok(None);
             }
             Move::LeftArc(label) => {
                 self.unfinished()?;
                 Arc {
-                    head: self.done + 1,
+                    head: self.front(),
                     label,
                     word: self.top(),
                 }
@@ -157,7 +150,7 @@ impl System for ArcEager {
                 Arc {
                     head: self.top(),
                     label,
-                    word: self.done + 1,
+                    word: self.front(),
                 }
             }
             Move::NoArc => return Err(Fault::from(Refusal::ForeignMove)),

@@ -4,6 +4,7 @@ ghost use Rattle.arc_standard.specs.Held.{held, stack_of};
 
 use super::ArcStandard;
 use arc_store::store::ArcStore;
+use arrayvec::ArrayVec;
 use treebank::rows::Row;
 use treebank::words::WordCount;
 
@@ -12,9 +13,10 @@ impl ArcStandard {
     pub fn new(words: WordCount) -> ArcStandard
         ensures { held result ≡ start words.count }
     {
+        let mut stack = ArrayVec::new();
+        stack.push(0);
         ArcStandard {
-            stack: [0; 101],
-            depth: 1,
+            stack,
             front: 1,
             arcs: ArcStore::new(words),
         }
@@ -24,7 +26,7 @@ impl ArcStandard {
     pub fn stack(&self) -> &[u8]
         ensures { reverse result.now ≡ stack_of self.now }
     {
-        &self.stack[0..self.depth]
+        self.stack.as_slice()
     }
 
     /// The first word of the buffer, or the number behind the last word where the buffer is empty.

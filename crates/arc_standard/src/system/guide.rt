@@ -24,12 +24,7 @@ impl ArcStandard {
     fn is_served(&self, table: &[Row], node: u8) -> bool
         ensures { result ≡ served (held self.now).rows table.now node (words (held self.now)) }
     {
-        for word in 0..self.arcs.words().get() {
-            if !self.serves(table, node, word + 1) {
-                return false;
-            }
-        }
-        true
+        (1..=self.arcs.words().get()).all(|word| self.serves(table, node, word))
     }
 
     fn shift_advice(&self) -> Option<Move>
@@ -45,12 +40,10 @@ impl ArcStandard {
     fn right_advice(&self, table: &[Row], i: u8, j: u8) -> Option<Move>
         ensures { result ≡ right_advice (held self.now) table.now j (arc_between table.now i j) }
     {
-        if let Some(arc) = arc_between(table, i, j) {
-            if self.is_served(table, j) {
-                return Some(Move::RightArc(arc.label));
-            }
+        match arc_between(table, i, j) {
+            Some(arc) if self.is_served(table, j) => Some(Move::RightArc(arc.label)),
+            _ => self.shift_advice(),
         }
-        self.shift_advice()
     }
 
     /// The first line of the advice that fits.
@@ -73,10 +66,7 @@ impl Guided for ArcStandard {
     ghost guides = { λ r s. Reached.guides };
 
     fn advice(&self, table: &[Row]) -> Option<Move> {
-        if self.finished() {
-            return None;
-        }
-        if !is_good_table(self.words(), table) {
+        if self.finished() || !is_good_table(self.words(), table) {
             return None;
         }
         self.arc_advice(table)

@@ -1,9 +1,10 @@
 ghost use Rattle.std.specs.Prelude.{◌≡◌, MatchResult};
 ghost use Rattle.transition.specs.Runs.{Arises};
-ghost use Rattle.arc_standard_theory.specs.Configurations.{start, emptied};
+ghost use Rattle.arc_standard_theory.specs.Configurations.{start, finished, emptied, root_alone};
 ghost use Rattle.arc_standard_theory.specs.Moves.{arc_standard, verdict, next};
 ghost use Rattle.arc_standard_theory.specs.Nivre.{AsDefined};
-ghost use Rattle.arc_standard.specs.Held.{held, Open, TopTwo, Stepped};
+ghost use Rattle.arc_store.specs.Stepping.{Open, Stepped};
+ghost use Rattle.arc_standard.specs.Held.{held, stack_of, TopTwo};
 ghost use Rattle.arc_standard_theory.proofs.Lawful.{lawful};
 
 use super::ArcStandard;
@@ -22,9 +23,18 @@ impl ArcStandard {
         self.front > self.arcs.words().get()
     }
 
+    /// Whether 0 is alone on the stack.
+    fn is_root_alone(&self) -> bool
+        ensures { result ≡ root_alone (stack_of self.now) }
+    {
+        matches!(self.stack.as_slice(), [0])
+    }
+
     /// `Finished` where 0 is alone on the stack and the buffer is empty.
+    // Each system's own: one over `System` is called from the impl's own `step`, and such a cycle of calls gets no proof;
+    // one that is handed the answer would say no more than the test.
     fn unfinished(&self) -> Result<(), Refusal>
-        ensures { Open (held self.now) result }
+        ensures { Open (finished (held self.now)) result }
     {
         if self.finished() {
             return Err(Refusal::Finished);
@@ -36,27 +46,26 @@ impl ArcStandard {
     pub(super) fn top_two(&self) -> Result<(u8, u8), Refusal>
         ensures { TopTwo self.now result }
     {
-        if self.depth < 2 {
-            return Err(Refusal::TooFewNodes);
+        match self.stack.as_slice() {
+            [.., second, top] => Ok((*second, *top)),
+            _ => Err(Refusal::TooFewNodes),
         }
-        Ok((self.stack[self.depth - 2], self.stack[self.depth - 1]))
     }
 
     fn shift(&mut self) -> Result<Option<Arc>, Fault>
-        ensures { Stepped self.old Move.Shift result self.new }
+        ensures { Stepped arc_standard held self.old Move.Shift result self.new }
     {
         self.unfinished()?;
         if self.is_emptied() {
             return Err(Fault::from(Refusal::TooFewNodes));
         }
-        self.stack[self.depth] = self.front;
-        self.depth += 1;
+        self.stack.push(self.front);
         self.front += 1;
         Ok(None)
     }
 
     fn left_arc(&mut self, label: u8) -> Result<Option<Arc>, Fault>
-        ensures { Stepped self.old (Move.LeftArc label) result self.new }
+        ensures { Stepped arc_standard held self.old (Move.LeftArc label) result self.new }
     {
         self.unfinished()?;
         let (i, j) = self.top_two()?;
@@ -65,13 +74,13 @@ impl ArcStandard {
             label,
             word: i,
         })?;
-        self.stack[self.depth - 2] = j;
-        self.depth -= 1;
+        let second = self.stack.len() - 2;
+        self.stack.remove(second);
         Ok(Some(arc))
     }
 
     fn right_arc(&mut self, label: u8) -> Result<Option<Arc>, Fault>
-        ensures { Stepped self.old (Move.RightArc label) result self.new }
+        ensures { Stepped arc_standard held self.old (Move.RightArc label) result self.new }
     {
         self.unfinished()?;
         let (i, j) = self.top_two()?;
@@ -80,12 +89,12 @@ impl ArcStandard {
             label,
             word: j,
         })?;
-        self.depth -= 1;
+        self.stack.pop();
         Ok(Some(arc))
     }
 
     fn make(&mut self, m: Move) -> Result<Option<Arc>, Fault>
-        ensures { Stepped self.old m result self.new }
+        ensures { Stepped arc_standard held self.old m result self.new }
     {
         match m {
             Move::Shift => self.shift(),
@@ -118,14 +127,11 @@ impl System for ArcStandard {
     }
 
     fn finished(&self) -> bool {
-        if self.depth > 1 {
-            return false;
-        }
-        self.stack[0] == 0 && self.is_emptied()
+        self.is_root_alone() && self.is_emptied()
     }
 
     fn remaining(&self) -> u16 {
-        2 * (self.arcs.words().get() as u16 + 1 - self.front as u16) + self.depth as u16 - 1
+        2 * (self.arcs.words().get() as u16 + 1 - self.front as u16) + self.stack.len() as u16 - 1
     }
 
     fn permission(&self, m: Move) -> Result<Option<Arc>, Fault> {

@@ -18,10 +18,7 @@ impl ArcStore {
     {
         ArcStore {
             words,
-            rows: [Row {
-                head: Row::NO_HEAD,
-                label: 0,
-            }; 100],
+            rows: [Row::from(None); 100],
         }
     }
 
@@ -36,7 +33,7 @@ impl ArcStore {
     pub fn rows(&self) -> &[Row]
         ensures { result.now ≡ rows_of self.now }
     {
-        &self.rows[0..self.words.get() as usize]
+        &self.rows[..self.words.get() as usize]
     }
 
     /// The arc into a word; none for a number that is no word of the sentence.
@@ -73,10 +70,7 @@ impl ArcStore {
         ensures { Drawn self.old arc result self.new }
     {
         let arc = self.permission(arc)?;
-        self.rows[arc.word as usize - 1] = Row {
-            head: arc.head,
-            label: arc.label,
-        };
+        self.rows[arc.word as usize - 1] = Row::from(Some(arc));
         Ok(arc)
     }
 }

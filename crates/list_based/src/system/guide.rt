@@ -1,5 +1,5 @@
 ghost use Rattle.std.specs.Prelude.{◌≡◌};
-ghost use Rattle.list_based_theory.specs.Advice.{joins, joins_before, left_advice, list_advice};
+ghost use Rattle.list_based_theory.specs.Advice.{joins_before, left_advice, list_advice};
 ghost use Rattle.treebank.specs.Tables.{arc_between};
 ghost use Rattle.list_based.specs.Held.{held};
 ghost use Rattle.list_based_theory.proofs.Reached;
@@ -9,25 +9,13 @@ use guidance::guided::Guided;
 use transition::system::System;
 use treebank::moves::Move;
 use treebank::rows::Row;
-use treebank::tables::{arc_between, is_good_table};
-
-/// Whether the table joins the two nodes, one way or the other.
-fn is_joined(table: &[Row], j: u8, node: u8) -> bool
-    ensures { result ≡ joins table.now j node }
-{
-    arc_between(table, node, j).is_some() || arc_between(table, j, node).is_some()
-}
+use treebank::tables::{arc_between, is_good_table, is_joined};
 
 /// Whether the table joins j to a node before i.
 fn is_joined_before(table: &[Row], j: u8, i: u8) -> bool
     ensures { result ≡ joins_before table.now j i }
 {
-    for node in 0..i {
-        if is_joined(table, j, node) {
-            return true;
-        }
-    }
-    false
+    (0..i).any(|node| is_joined(table, node, j))
 }
 
 /// The advice with i last in the first list and j first in the buffer.
@@ -64,10 +52,7 @@ impl Guided for ListBased {
     ghost guides = { λ r s. Reached.guides };
 
     fn advice(&self, table: &[Row]) -> Option<Move> {
-        if self.finished() {
-            return None;
-        }
-        if !is_good_table(self.words(), table) {
+        if self.finished() || !is_good_table(self.words(), table) {
             return None;
         }
         self.list_advice(table)

@@ -1,9 +1,10 @@
 ghost use Rattle.std.specs.Prelude.{◌≡◌, MatchResult};
 ghost use Rattle.transition.specs.Runs.{Arises};
-ghost use Rattle.list_based_theory.specs.Configurations.{start};
+ghost use Rattle.list_based_theory.specs.Configurations.{start, finished};
 ghost use Rattle.list_based_theory.specs.Moves.{list_based, verdict, next};
 ghost use Rattle.list_based_theory.specs.Nivre.{AsDefined};
-ghost use Rattle.list_based.specs.Held.{held, Open, Last, Stepped};
+ghost use Rattle.arc_store.specs.Stepping.{Open, Stepped};
+ghost use Rattle.list_based.specs.Held.{held, Last};
 ghost use Rattle.list_based_theory.proofs.Lawful.{lawful};
 
 use super::ListBased;
@@ -16,8 +17,10 @@ use treebank::words::WordCount;
 
 impl ListBased {
     /// `Finished` where the buffer is empty.
+    // Each system's own: one over `System` is called from the impl's own `step`, and such a cycle of calls gets no proof;
+    // one that is handed the answer would say no more than the test.
     fn unfinished(&self) -> Result<(), Refusal>
-        ensures { Open (held self.now) result }
+        ensures { Open (finished (held self.now)) result }
     {
         if self.finished() {
             return Err(Refusal::Finished);
@@ -29,14 +32,11 @@ impl ListBased {
     pub(super) fn last(&self) -> Result<u8, Refusal>
         ensures { Last (held self.now) result }
     {
-        if self.left == 0 {
-            return Err(Refusal::TooFewNodes);
-        }
-        Ok(self.left - 1)
+        self.left.checked_sub(1).ok_or(Refusal::TooFewNodes)
     }
 
     fn shift(&mut self) -> Result<Option<Arc>, Fault>
-        ensures { Stepped self.old Move.Shift result self.new }
+        ensures { Stepped list_based held self.old Move.Shift result self.new }
     {
         self.unfinished()?;
         self.front += 1;
@@ -46,7 +46,7 @@ impl ListBased {
     }
 
     fn left_arc(&mut self, label: u8) -> Result<Option<Arc>, Fault>
-        ensures { Stepped self.old (Move.LeftArc label) result self.new }
+        ensures { Stepped list_based held self.old (Move.LeftArc label) result self.new }
     {
         self.unfinished()?;
         let i = self.last()?;
@@ -61,7 +61,7 @@ impl ListBased {
     }
 
     fn right_arc(&mut self, label: u8) -> Result<Option<Arc>, Fault>
-        ensures { Stepped self.old (Move.RightArc label) result self.new }
+        ensures { Stepped list_based held self.old (Move.RightArc label) result self.new }
     {
         self.unfinished()?;
         let i = self.last()?;
@@ -76,7 +76,7 @@ impl ListBased {
     }
 
     fn no_arc(&mut self) -> Result<Option<Arc>, Fault>
-        ensures { Stepped self.old Move.NoArc result self.new }
+        ensures { Stepped list_based held self.old Move.NoArc result self.new }
     {
         self.unfinished()?;
         let i = self.last()?;
@@ -86,7 +86,7 @@ impl ListBased {
     }
 
     fn make(&mut self, m: Move) -> Result<Option<Arc>, Fault>
-        ensures { Stepped self.old m result self.new }
+        ensures { Stepped list_based held self.old m result self.new }
     {
         match m {
             Move::Shift => self.shift(),

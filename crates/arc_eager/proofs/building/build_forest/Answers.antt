@@ -1,7 +1,5 @@
-use Rattle.std.proofs.Common.{vec_items, inl}
-use Rattle.std.proofs.lemmas.Result.{MatchResult-weaker}
 use Rattle.arc_eager_theory.proofs.Reached.{exactly}
-use Rattle.guidance.proofs.Classed.{built_class, no_class}
+use Rattle.guidance.proofs.Classed.{class_built}
 use Rattle.arc_eager_theory.specs.Configurations.{start}
 use Rattle.arc_eager_theory.specs.Moves.{arc_eager}
 use Rattle.arc_eager_theory.specs.Classes.{ProjectiveForest}
@@ -9,16 +7,15 @@ use Rattle.arc_eager_theory.proofs.Reached.{reaches_projective_forests}
 use Rattle.arc_eager.specs.Held.{held}
 use Rattle.arc_eager.proofs.building.build_forest.Goals as goal
 
-pub returns-in-Err : goal.returns-in-Err
-returns-in-Err c = record { forest = inl c.in-Err.ensures; class = reaches_projective_forests; exact = exactly }
+pub returns-in_err-words-clause-class : goal.returns-in_err-words-clause-class
+returns-in_err-words-clause-class c = reaches_projective_forests
+
+pub returns-in_err-words-clause-exact : goal.returns-in_err-words-clause-exact
+returns-in_err-words-clause-exact c = exactly
 
 pub returns : goal.returns
-returns c =
-    let w = c.args.table.now in
-    record {
-      forest = MatchResult-weaker c.build.result c.build.ensures.built
-          (λ v b. built_class arc_eager start ProjectiveForest reaches_projective_forests w (vec_items v) (held c.build.new.system) b)
-          (λ e n. no_class arc_eager start ProjectiveForest reaches_projective_forests w held c.new-system.result e c.build.new.system n);
-      class = reaches_projective_forests;
-      exact = exactly;
-    }
+returns c = record {
+  forest = class_built arc_eager start ProjectiveForest reaches_projective_forests c.args.table.now held c.new-2.result c.build.new.system c.build.result c.build.ensures.built;
+  class = reaches_projective_forests;
+  exact = exactly;
+}

@@ -1,20 +1,6 @@
-use Rattle.std.proofs.Common.{refl}
-use Rattle.std.proofs.lemmas.Result.{err_from_is_err_and}
-use Rattle.arc_store.specs.Drawing.{rows_of}
-use Rattle.arc_standard.proofs.Same.{same_system}
-use Rattle.arc_standard.proofs.Steps.{left_refused, left_drawn}
+use Rattle.std.proofs.Common.{rules}
+use Rattle.arc_standard.proofs.Stacked.{second_out}
 use Rattle.arc_standard.proofs.system.ArcStandard.left_arc.Goals as goal
 
-pub returns-in_err-arc : goal.returns-in_err-arc
-returns-in_err-arc c =
-    let s = c.args.self.now in
-    let (two, top) = c.in_ok-i.ensures in
-    let (v, e) = c.in_err-arc.ensures in
-    let p = err_from_is_err_and c.from_residual-in_err-arc.result c.from_residual-in_err-arc.ensures.1 in
-    rw (p.1, p.2) (left_refused s c.in_ok-unfinished.ensures c.args.label c.in_ok-i.i c.in_ok-i.j two top _ c.in_err-arc.field-0.0 v (same_system _ s refl refl refl e))
-
 pub returns : goal.returns
-returns c =
-    let (two, top) = c.in_ok-i.ensures in
-    let (same, v, e, kept) = c.in_ok-arc.ensures in
-    left_drawn c.args.self.now c.in_ok-unfinished.ensures c.args.label c.in_ok-i.i c.in_ok-i.j two top c.in_ok-arc.arc (rows_of c.draw.new.self) same v e
+returns c = search (rules, second_out)

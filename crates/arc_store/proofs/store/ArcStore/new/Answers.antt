@@ -1,7 +1,6 @@
-use Rattle.arc_store.specs.Drawing.{bare}
-use Rattle.std.proofs.Common.{refl}
+use Rattle.std.proofs.Common.{replicate, ap, ◌∙◌}
 use Rattle.std.proofs.lemmas.List.{take-replicate}
 use Rattle.arc_store.proofs.store.ArcStore.new.Goals as goal
 
-pub returns : goal.returns
-returns c = record { bare = take-replicate c.args.words.count 100 bare c.args.words.small; words = refl }
+pub returns-clause-bare : goal.returns-clause-bare
+returns-clause-bare c = take-replicate c.args.words.count 100 c.from.result c.args.words.small ∙ ap (replicate c.args.words.count) c.from.ensures

@@ -1,14 +1,7 @@
-use Rattle.std.proofs.Common.{refl}
-use Rattle.arc_standard.proofs.Answered.{answer, moved, as_defined}
+use Rattle.std.proofs.Common.{rules}
+use Rattle.arc_standard_theory.proofs.Defined.{defined}
+use Rattle.arc_standard.specs.Held.{held}
 use Rattle.arc_standard.proofs.system.moves.ArcStandardSystem.step.Goals as goal
 
-pub returns : goal.returns
-returns c =
-    let s = c.args.self.now in
-    let t = c.make.new.self in
-    record {
-      answer = answer s t c.args.m c.make.result c.make.ensures;
-      moved = moved s t c.args.m c.make.result c.make.ensures;
-      alike = refl;
-      defined = as_defined s t c.args.m c.make.result c.make.ensures;
-    }
+pub returns-clause-defined : goal.returns-clause-defined
+returns-clause-defined c = λ h. defined (held c.args.self.now) (held c.make.new.self) c.args.m c.make.result h (search rules) (search rules)

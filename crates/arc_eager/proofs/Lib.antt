@@ -1,4 +1,0 @@
-pub mod Stacked
-pub mod Same
-pub mod Steps
-pub mod Answered
