@@ -1,2 +1,2 @@
 pub mod Packing
-pub mod Standing
+pub mod Pushing

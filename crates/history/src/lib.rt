@@ -2,5 +2,8 @@
 #![tactic(auto)]
 
 pub mod history;
+pub mod iter;
+mod packing;
 
-pub use history::History;
+pub use history::{History, HistoryFull};
+pub use iter::Moves;

@@ -1,60 +1,61 @@
 -- What the workbench's parts did, put together.
-use Rattle.std.proofs.Common.{◌≡◌, ℕ, ◌<◌, Bool, true, false, cond, List, [], ◌∷◌, ◌++◌, length, take, Some, Err, sym, ap, ◌∙◌, subst, ap₂, inl, inr, arith}
+use Rattle.std.proofs.Common.{◌≡◌, ℕ, ◌<◌, Bool, true, false, cond, eqb, List, [], ◌∷◌, ◌++◌, length, Some, None, Ok, Err, Option, Result, sym, ap, ◌∙◌, inl, inr, arith}
+use Rattle.std.proofs.Math.Logic.{∥∥₁_elim, ∥∥₁_map}
+use Rattle.std.proofs.lemmas.Bool.{eqb-true}
+use Rattle.std.specs.Coded.{le_prop}
+use Rattle.treebank.specs.declared.arcs.Arc.{Arc}
 use Rattle.treebank.specs.declared.moves.Move.{Move}
 use Rattle.treebank.specs.declared.rows.Row.{Row}
 use Rattle.treebank.specs.declared.refusals.Refusal.TheVariants.{ForeignMove, Finished}
 use Rattle.treebank.specs.Moves.{Proper}
+use Rattle.treebank.specs.Tables.{GoodTable}
 use Rattle.transition.specs.declared.faults.Fault.{Fault}
 use Rattle.transition.specs.Meaning.{Meaning, fault}
-use Rattle.transition.specs.Runs.{Run, after}
 use Rattle.transition.specs.Laws.{Laws}
 use Rattle.guidance.specs.Guides.{Guides}
-use Rattle.history.specs.declared.history.History.{History}
-use Rattle.history.specs.Standing.{standing, Pushed}
-use Rattle.workbench_model.specs.declared.answers.Answer.{Answer}
-use Rattle.workbench_model.specs.declared.answers.Answer.TheVariants.{Refused}
+use Rattle.history.specs.declared.history.HistoryFull.{HistoryFull}
+use Rattle.history.specs.Pushing.{Pushed}
+use Rattle.workbench_model.specs.Models.{Model}
 use Rattle.workbench_model.specs.Models.Call.{step, derive}
-use Rattle.workbench_model.specs.Advances.{Went}
-use Rattle.workbench_model.specs.Serving.{refusal}
+use Rattle.workbench_model.specs.Serving.{Outcome, refusal}
 use Rattle.workbench_model.specs.States.{State, Sound, Served}
+use Rattle.workbench_model.specs.Lasting.{Led}
+use Rattle.workbench_model.proofs.Tested.{no_way}
 use Rattle.workbench_model.proofs.Derived.{served_led}
-use Rattle.workbench_model.proofs.Serves.{served_no, step_foreign, step_finished, step_refused}
-use Rattle.workbench.specs.declared.workbench.Workbench.{Workbench}
-use Rattle.workbench.specs.Workbenches.{state, Serves, ReachTold, StepFault}
+use Rattle.workbench_model.proofs.Serves.{served_no, step_foreign, step_finished, step_refused, room}
+use Rattle.workbench_model.proofs.Merely.{merely_served, merely_led}
+use Rattle.workbench.specs.Workbenches.{StepFault, noted_for}
 
--- where there is room the move is pushed
-pub pushed : (h k : History) (m : Move) (r : Bool) → length (standing h) < 5150 → Pushed h m r k → standing k ≡ standing h ++ (m ∷ [])
-pushed h k m true l p = p
-pushed h k m false l (full, same) = let f : ⊥ = omega arith in absurd f
+-- a permitted move is pushed: there is room
+pub has_room : {M : Meaning} (b : State M) (m : Move) (a : Option Arc) → ∥ Sound M b ∥₁ → Laws M b.start → Proper m → M.verdict b.at m ≡ Ok a → length b.model.moves < 5150
+has_room b m a h laws p v = ∥∥₁_elim h le_prop (λ s. room b m s a laws p v)
+
+pub pushed : (before after : List Move) (m : Move) (r : Result Unit HistoryFull) → length before < 5150 → Pushed before m r after → after ≡ before ++ (m ∷ [])
+pushed before after m (Ok u) l (free, more) = more
+pushed before after m (Err full) l (end, same) = absurd (omega arith)
 
 -- a step that the system refused
-pub step_no : {X : Type 0} (M : Meaning) (conf : X → M.Config) (start : X → ℕ → M.Config) (b : Workbench X) (x : X) (m : Move) (f r : Fault) → Laws M (start b.system) → Sound M (state M conf start b) → Proper m →
-    M.verdict (conf b.system) m ≡ Err f → x ≡ b.system → StepFault (M.finished (conf x)) f r →
-    Served M (state M conf start b) (step m) (Refused r) (state M conf start (record { system = x; history = b.history; words = b.words; epoch = b.epoch; checkpoint = b.checkpoint }))
-step_no M conf start b x m f r laws s p v e told =
-    served_no (state M conf start b) _ (step m) r s (why told) (ap (λ y. state M conf start (record { system = y; history = b.history; words = b.words; epoch = b.epoch; checkpoint = b.checkpoint })) e)
+pub step_no : {M : Meaning} (b d : State M) (m : Move) (f r : Fault) → ∥ Sound M b ∥₁ → Laws M b.start → Proper m → M.verdict b.at m ≡ Err f → d ≡ b →
+    StepFault (M.finished d.at) f r → Served M b (step m) (Err r) d
+step_no {M} b d m f r h laws p v e told = merely_served h (ap (λ (y : State M). y.start) e) (λ s. served_no b d (step m) r (why s told) e)
   where
-    at : State M
-    at = state M conf start b
+    ended : Sound M b → (t : Bool) → M.finished b.at ≡ t → (f.refusal ≡ ForeignMove → ⊥) → r ≡ cond t (fault Finished 0) f → refusal M b.start b.model (step m) ≡ Some r
+    ended s true i other q = step_finished b m s laws f p v other i ∙ ap (λ (y : Fault). Some y) (sym q)
+    ended s false i other q = step_refused b m s laws f p v other i ∙ ap (λ (y : Fault). Some y) (sym q)
 
-    ended : (t : Bool) → M.finished (conf b.system) ≡ t → (f.refusal ≡ ForeignMove → ⊥) → r ≡ cond t (fault Finished 0) f → refusal M (start b.system) at.model (step m) ≡ Some r
-    ended true i other q = step_finished at m s laws f p v other i ∙ ap (λ (y : Fault). Some y) (sym q)
-    ended false i other q = step_refused at m s laws f p v other i ∙ ap (λ (y : Fault). Some y) (sym q)
+    why : Sound M b → StepFault (M.finished d.at) f r → refusal M b.start b.model (step m) ≡ Some r
+    why s (inl (foreign, q)) = step_foreign b m s laws f p v foreign ∙ ap (λ (y : Fault). Some y) (sym q)
+    why s (inr (other, q)) = ended s (M.finished d.at) (ap (λ (y : State M). M.finished y.at) (sym e)) other q
 
-    why : StepFault (M.finished (conf x)) f r → refusal M (start b.system) at.model (step m) ≡ Some r
-    why (inl (foreign, q)) = step_foreign at m s laws f p v foreign ∙ ap (λ (y : Fault). Some y) (sym q)
-    why (inr (other, q)) = ended (M.finished (conf x)) (ap (λ y. M.finished (conf y)) (sym e)) other q
-
--- the moves made again from the start, by what a loop says of where it began
-pub again_from : (M : Meaning) (x y c : M.Config) (ms : List Move) (i n : ℕ) → x ≡ y → i ≡ n → ((d : M.Config) → Run M x ms d → c ≡ after M x (take i ms)) → (d : M.Config) → Run M y ms d → c ≡ after M y (take n ms)
-again_from M x y c ms i n e f h d r = h d (subst (λ (z : M.Config). Run M z ms d) (sym e) r) ∙ ap₂ (λ (z : M.Config) (k : ℕ). after M z (take k ms)) e f
-
--- a refused move left the system as it was
-pub went_same : {X : Type 0} (M : Meaning) (conf : X → M.Config) (start : ℕ → M.Config) (w : List Row) (ms : List Move) (c : M.Config) (ns : List Move) (x y : X) →
-    y ≡ x → Went M start w ms c false ns (conf x) → Went M start w ms c false ns (conf y)
-went_same {X} M conf start w ms c ns x y e g = subst (λ (z : X). Went M start w ms c false ns (conf z)) (sym e) g
+-- a ticket that fits the checkpoint
+pub noted : (b : Model) (t k : ℕ) → noted_for b t ≡ Some k → (b.checkpoint ≡ Some k) × (b.epoch ≡ t)
+noted b t k e = at (eqb b.epoch t) e (λ i. eqb-true b.epoch t i)
+  where
+    at : (x : Bool) → cond x b.checkpoint None ≡ Some k → (x ≡ true → b.epoch ≡ t) → (b.checkpoint ≡ Some k) × (b.epoch ≡ t)
+    at true i f = (i, f (λ _. true))
+    at false i f = no_way (cc)
 
 -- what a derive served, with reliable advice
-pub reach_told : {X : Type 0} (M : Meaning) (conf : X → M.Config) (start : X → ℕ → M.Config) (R : Type 0) (b d : Workbench X) (w : List Row) (a : Answer) → Laws M (start b.system) → (R → Guides M (start b.system)) →
-    Serves M conf start b (derive w) a d → ReachTold M conf start R b w a d
-reach_told M conf start R b d w a laws guides v r s good = served_led (state M conf start b) (state M conf start d) w a laws (guides r) s good (v s)
+pub reach_told : {M : Meaning} {reliable : Type 0} (b d : State M) (w : List Row) (a : Outcome) → ∥ Sound M b ∥₁ → Laws M b.start → (reliable → Guides M b.start) →
+    Served M b (derive w) a d → reliable → GoodTable b.model.words w → Led M w b.at a d.at
+reach_told b d w a h laws guides v r good = merely_led a (∥∥₁_map h (λ s. served_led b d w a laws (guides r) s good v))

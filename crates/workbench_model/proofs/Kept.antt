@@ -1,5 +1,5 @@
 -- What every call of the model keeps.
-use Rattle.std.proofs.Common.{◌≡◌, ℕ, ◌-◌, ◌<◌, ◌≤◌, true, not, eqb, ltb, leb, ◌↔◌, List, [], ◌∷◌, ◌++◌, length, take, is_some, Some, None, Option, sym, refl, ap, ◌∙◌, subst, arith, lit≤}
+use Rattle.std.proofs.Common.{◌≡◌, ℕ, ◌-◌, ◌<◌, ◌≤◌, true, not, eqb, ltb, leb, ◌↔◌, List, [], ◌∷◌, ◌++◌, length, take, is_some, Some, None, Ok, Option, sym, refl, ap, ◌∙◌, subst, arith, lit≤}
 use Rattle.std.proofs.lemmas.List.{length_push, length-append, length-take-le}
 use Rattle.std.proofs.lemmas.Bool.{leb-false, ltb-false, eqb-true, eq-eqb, not-false, not_from_true, and_parts}
 use Rattle.treebank.specs.declared.moves.Move.{Move}
@@ -18,12 +18,11 @@ use Rattle.transition.proofs.Forests.{arcs_forest}
 use Rattle.guidance.specs.Guides.{Guides}
 use Rattle.guidance.specs.Following.{Derives}
 use Rattle.guidance.proofs.Followed.{follows_run, derives}
-use Rattle.workbench_model.specs.declared.answers.Answer.{Answer}
 use Rattle.workbench_model.specs.declared.answers.Answer.TheVariants.{Made}
 use Rattle.workbench_model.specs.Models.{Model, Call, new_model, config}
 use Rattle.workbench_model.specs.Models.Call.{load, step, undo, checkpoint, commit, rollback, derive}
 use Rattle.workbench_model.specs.Derivations.{is_proper, derivation}
-use Rattle.workbench_model.specs.Serving.{with_moves, floor, moves_of, refuse_if, fault_of, refusal, report, change, unless, serve}
+use Rattle.workbench_model.specs.Serving.{Outcome, with_moves, floor, moves_of, refuse_if, fault_of, refusal, report, change, unless, serve}
 use Rattle.workbench_model.specs.Lasting.{Lawful, Tally, count, Balanced, Led, unreachable}
 use Rattle.workbench_model.proofs.Tested.{no_way, passed, passes, fault_none, some_moves, within_more, within_floor, floor_within, proper_exact}
 use Rattle.workbench_model.proofs.Followed.{run_take, after_join, run_more, derivation_follows, follows_derivation}
@@ -98,7 +97,7 @@ module _ {M : Meaning} {start : ℕ → M.Config} (laws : Laws M start) where
         within = within_more b.checkpoint (length b.moves) (length (b.moves ++ ms)) (omega (arith, length-append b.moves ms)) h.within;
       }
 
-  pub change_balanced : (b : Model) (call : Call) (t : Tally) → Lawful M start b → refusal M start b call ≡ None → Balanced t b → Balanced (count t (report M start b call)) (change M start b call)
+  pub change_balanced : (b : Model) (call : Call) (t : Tally) → Lawful M start b → refusal M start b call ≡ None → Balanced t b → Balanced (count t (Ok (report M start b call))) (change M start b call)
   change_balanced b (load n s) t h e q = refl
   change_balanced b (step m) t h e q = omega (arith, length_push b.moves m)
   change_balanced b undo t h e q =
@@ -157,18 +156,18 @@ module _ {M : Meaning} {start : ℕ → M.Config} (laws : Laws M start) where
       at : (o : Option (List Move)) → derivation M w c ≡ o → Led M w c (serve M start b (derive w)).0 (config M start (serve M start b (derive w)).1)
       at None e =
           let s : serve M start b (derive w) ≡ (unreachable, b) = ap (λ (x : Option Fault). unless x b (report M start b (derive w)) (change M start b (derive w))) (why None e) in
-          let a : (serve M start b (derive w)).0 ≡ unreachable = ap (λ (x : Answer × Model). x.0) s in
+          let a : (serve M start b (derive w)).0 ≡ unreachable = ap (λ (x : Outcome × Model). x.0) s in
           let no : Reaches M c w → ⊥ = λ r. (let (ms, d, f, t) = reach.0 r in let z : ◌≡◌ {A = ℕ} 0 1 = cc (follows_derivation laws w (lawful_arises b h) len ms f t) in omega arith) in
           record { refused = (λ q. no, λ q. a); accepted = λ q. absurd (q a) }
       at (Some ms) e =
           let (f, same) = derivation_follows laws w (lawful_arises b h) len ms e in
           let d : Model = with_moves b (b.moves ++ ms) in
-          let s : serve M start b (derive w) ≡ (Made (length ms), d) =
+          let s : serve M start b (derive w) ≡ (Ok (Made (length ms)), d) =
           ap (λ (x : Option Fault). unless x b (report M start b (derive w)) (change M start b (derive w))) (why (Some ms) e)
-          ∙ ap (λ (o : Option (List Move)). (Made (length (moves_of o)), with_moves b (b.moves ++ moves_of o))) e in
+          ∙ ap (λ (o : Option (List Move)). (Ok (Made (length (moves_of o))), with_moves b (b.moves ++ moves_of o))) e in
           let yes : Reaches M c w = reach.1 (ms, after M c ms, f, same) in
           let there : config M start d ≡ after M c ms = after_join M (start b.words) b.moves ms in
-          subst (λ (x : Answer × Model). Led M w c x.0 (config M start x.1)) (sym s) (record {
+          subst (λ (x : Outcome × Model). Led M w c x.0 (config M start x.1)) (sym s) (record {
             refused = (λ q. no_way (cc), λ no. absurd (no yes));
             accepted = λ q. (
                 let P : M.Config → Type 0 = λ x. (M.finished x ≡ true) × SameArcs (M.arcs x) (table_arcs w) in

@@ -5,3 +5,4 @@ pub mod Rowed
 pub mod Advanced
 pub mod Serves
 pub mod Derived
+pub mod Merely

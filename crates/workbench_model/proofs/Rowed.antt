@@ -7,7 +7,7 @@ use Rattle.treebank.specs.declared.arcs.Arc.{Arc}
 use Rattle.treebank.specs.declared.moves.Move.{Move}
 use Rattle.treebank.specs.declared.rows.Row.{Row}
 use Rattle.treebank.specs.Moves.{Label, Proper, ProperLabel}
-use Rattle.treebank.specs.Tables.{arc, row, row_at, row_arc, GoodRow, GoodTable, arc_into, table_arcs}
+use Rattle.treebank.specs.Tables.{arc, row, row_of, row_at, row_arc, GoodRow, GoodTable, arc_into, table_arcs}
 use Rattle.treebank.specs.Trees.{◌∈◌, SameArcs, Joins}
 use Rattle.treebank.proofs.Said.{into_row}
 use Rattle.transition.specs.Meaning.{Meaning}
@@ -16,7 +16,7 @@ use Rattle.transition.specs.Laws.{Laws, ArcInto}
 use Rattle.transition.proofs.Running.{arises_keeps}
 use Rattle.guidance.specs.Building.{Agrees}
 use Rattle.guidance.proofs.Compared.{agrees_same}
-use Rattle.workbench_model.specs.Rows.{row_of, config_rows}
+use Rattle.workbench_model.specs.Rows.{config_rows}
 
 -- the arcs join nodes of the sentence and have labels
 abbrev Fits : (M : Meaning) → M.Config → Type 0

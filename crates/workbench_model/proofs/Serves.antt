@@ -1,13 +1,10 @@
 -- Calls of a workbench against the model's tables.
-use Rattle.std.proofs.Common.{◌≡◌, ℕ, zero, suc, ◌+◌, ◌-◌, ◌<◌, ◌≤◌, Bool, true, false, not, eqb, ltb, leb, List, [], ◌∷◌, ◌++◌, length}
-use Rattle.std.proofs.Common.{get_or, take, is_some, Some, None, Ok, Err, Option, sym, refl, ap, ◌∙◌, subst, ap₂, inl, inr, arith, MatchResult}
-use Rattle.std.specs.List.{slice_get}
-use Rattle.std.proofs.lemmas.List.{length_push, take_all, take_more}
-use Rattle.std.proofs.lemmas.Option.{slice_get-get_or, slice_get_past}
-use Rattle.std.proofs.lemmas.Bool.{le-ltb, lt-ltb, le-leb, lt-leb, eq-eqb, ne_eqb, and_from, and_left, and_right, not_from_true, not_from_false, cases_lt}
+use Rattle.std.proofs.Common.{◌≡◌, ℕ, ◌-◌, ◌<◌, ◌≤◌, Bool, true, false, not, eqb, ltb, leb, List, [], ◌∷◌, ◌++◌, length}
+use Rattle.std.proofs.Common.{take, is_some, Some, None, Ok, Err, Option, sym, refl, ap, ◌∙◌, subst, ap₂, arith, MatchResult}
+use Rattle.std.proofs.lemmas.List.{length_push, length-take}
+use Rattle.std.proofs.lemmas.Bool.{le-ltb, lt-leb, eq-eqb, and_from, not_from_true, not_from_false}
 use Rattle.treebank.specs.declared.arcs.Arc.{Arc}
 use Rattle.treebank.specs.declared.moves.Move.{Move}
-use Rattle.treebank.specs.declared.moves.Move.TheVariants.{Shift}
 use Rattle.treebank.specs.declared.refusals.Refusal.TheVariants.{TooManyWords, BadLabel, ForeignMove, Finished, NothingToUndo, CheckpointStands, NoSuchCheckpoint}
 use Rattle.treebank.specs.Moves.{Proper}
 use Rattle.transition.specs.declared.faults.Fault.{Fault}
@@ -17,16 +14,16 @@ use Rattle.transition.specs.Laws.{Laws, Foreign}
 use Rattle.transition.proofs.Running.{run_after, run_join, run_one}
 use Rattle.transition.proofs.Ceilings.{bounded}
 use Rattle.workbench_model.specs.declared.answers.Answer.{Answer}
-use Rattle.workbench_model.specs.declared.answers.Answer.TheVariants.{Removed, Refused}
-use Rattle.workbench_model.specs.Models.{Model, Call, config}
-use Rattle.workbench_model.specs.Models.Call.{load, step, undo, checkpoint, rollback}
+use Rattle.workbench_model.specs.declared.answers.Answer.TheVariants.{Loaded, Made, Removed}
+use Rattle.workbench_model.specs.Models.{Model, Call, new_model, config}
+use Rattle.workbench_model.specs.Models.Call.{load, step, undo, rollback}
 use Rattle.workbench_model.specs.Derivations.{is_proper}
 use Rattle.workbench_model.specs.Serving.{with_moves, with_checkpoint, floor, does_fit, refuse_if, fault_of, refusal, report, change, unless}
-use Rattle.workbench_model.specs.States.{State, Sound, Served}
+use Rattle.workbench_model.specs.States.{State, Sound, holding, Served, WentBack}
 use Rattle.workbench_model.specs.Lasting.{Lawful}
-use Rattle.workbench_model.proofs.Tested.{no_way, refuses, passes, proper_exact}
-use Rattle.workbench_model.proofs.Followed.{after_join}
-use Rattle.workbench_model.proofs.Kept.{change_lawful}
+use Rattle.workbench_model.proofs.Tested.{no_way, refuses, passes, within_floor, floor_within, proper_exact}
+use Rattle.workbench_model.proofs.Followed.{after_join, run_take}
+use Rattle.workbench_model.proofs.Kept.{new_lawful, change_lawful}
 
 module _ {M : Meaning} (b : State M) where
   pub sound_at : Sound M b → b.at ≡ config M b.start b.model
@@ -46,43 +43,38 @@ lawful_sound {M} {start} d e f h = record {
 }
 
 -- a call that was accepted
-pub served_ok : {M : Meaning} (b d : State M) (call : Call) (a : Answer) → Laws M b.start → Sound M b →
+pub served_ok : {M : Meaning} (b d : State M) (call : Call) (a : Answer) → Laws M b.start →
     refusal M b.start b.model call ≡ None → report M b.start b.model call ≡ a → d.model ≡ change M b.start b.model call →
-    d.start ≡ b.start → d.at ≡ config M b.start (change M b.start b.model call) → Served M b call a d
-served_ok {M} b d call a laws s e r m u at = record {
+    d.start ≡ b.start → (Sound M b → d.at ≡ config M b.start (change M b.start b.model call)) → Served M b call (Ok a) d
+served_ok {M} b d call a laws e r m u at = record {
   is = ap (λ (o : Option Fault). unless o b.model (report M b.start b.model call) (change M b.start b.model call)) e
-      ∙ ap₂ (λ (x : Answer) (y : Model). (x, y)) r (sym m);
+      ∙ ap₂ (λ (x : Answer) (y : Model). (Ok x, y)) r (sym m);
   same = u;
-  sound = lawful_sound d u (at ∙ ap (config M b.start) (sym m)) (subst (Lawful M b.start) (sym m) (change_lawful laws b.model call (sound_lawful b s) e));
+  sound = λ s. lawful_sound d u (at s ∙ ap (config M b.start) (sym m)) (subst (Lawful M b.start) (sym m) (change_lawful laws b.model call (sound_lawful b s) e));
 }
 
 -- a call that was refused
-pub served_no : {M : Meaning} (b d : State M) (call : Call) (f : Fault) → Sound M b → refusal M b.start b.model call ≡ Some f → d ≡ b → Served M b call (Refused f) d
-served_no {M} b d call f s e q = record {
-  is = ap (λ (o : Option Fault). unless o b.model (report M b.start b.model call) (change M b.start b.model call)) e ∙ ap (λ (y : State M). (Refused f, y.model)) (sym q);
+pub served_no : {M : Meaning} (b d : State M) (call : Call) (f : Fault) → refusal M b.start b.model call ≡ Some f → d ≡ b → Served M b call (Err f) d
+served_no {M} b d call f e q = record {
+  is = ap (λ (o : Option Fault). unless o b.model (report M b.start b.model call) (change M b.start b.model call)) e ∙ ap (λ (y : State M). (Err f, y.model)) (sym q);
   same = ap (λ (y : State M). y.start) q;
-  sound = subst (Sound M) (sym q) s;
+  sound = λ s. subst (Sound M) (sym q) s;
 }
 
 -- load
-stands : (k : Option ℕ) (j : ℕ) → k ≡ Some j → is_some k ≡ true
-stands k j e = ap (λ (x : Option ℕ). is_some x) e
+no_checkpoint : (k : Option ℕ) → is_some k ≡ false → k ≡ None
+no_checkpoint None e = refl
+no_checkpoint (Some k) e = no_way (cc)
 
-free : (k : Option ℕ) → k ≡ None → is_some k ≡ false
-free k e = ap (λ (x : Option ℕ). is_some x) e
-
-pub load_standing : (M : Meaning) (start : ℕ → M.Config) (b : Model) (n e j : ℕ) → b.checkpoint ≡ Some j → refusal M start b (load n e) ≡ Some (fault CheckpointStands 0)
-load_standing M start b n e j k = refuses (is_some b.checkpoint) CheckpointStands (refuse_if (ltb 100 n) TooManyWords None) (stands _ j k)
-
-pub load_many : (M : Meaning) (start : ℕ → M.Config) (b : Model) (n e : ℕ) → b.checkpoint ≡ None → 100 < n → refusal M start b (load n e) ≡ Some (fault TooManyWords 0)
-load_many M start b n e k h =
-    passes (is_some b.checkpoint) CheckpointStands (refuse_if (ltb 100 n) TooManyWords None) (free _ k)
-    ∙ refuses (ltb 100 n) TooManyWords None (lt-ltb 100 n h)
-
-pub load_free : (M : Meaning) (start : ℕ → M.Config) (b : Model) (n e : ℕ) → b.checkpoint ≡ None → n ≤ 100 → refusal M start b (load n e) ≡ None
-load_free M start b n e k h =
-    passes (is_some b.checkpoint) CheckpointStands (refuse_if (ltb 100 n) TooManyWords None) (free _ k)
-    ∙ passes (ltb 100 n) TooManyWords None (le-ltb 100 n h)
+pub loaded : {M : Meaning} (b : State M) (n e : ℕ) {m : ℕ} {ms : List Move} {c : M.Config} {u : ℕ → M.Config} → Laws M b.start → is_some b.model.checkpoint ≡ false → n ≤ 100 →
+    m ≡ n → ms ≡ [] → u ≡ b.start → c ≡ b.start m → Served M b (load n e) (Ok Loaded) (holding m e ms b.model.checkpoint c u)
+loaded {M} b n e {m} {ms} {c} {u} laws k few count none same begun =
+    let free : b.model.checkpoint ≡ None = no_checkpoint b.model.checkpoint k in
+    let q : ◌≡◌ {A = Model} (record { words = m; epoch = e; moves = ms; checkpoint = b.model.checkpoint }) (record { words = n; epoch = e; moves = []; checkpoint = None }) =
+    λ i. record { words = count i; epoch = e; moves = none i; checkpoint = free i } in
+    let passed : refusal M b.start b.model (load n e) ≡ None =
+    passes (is_some b.model.checkpoint) CheckpointStands (refuse_if (ltb 100 n) TooManyWords None) k ∙ passes (ltb 100 n) TooManyWords None (le-ltb 100 n few) in
+    served_ok b _ (load n e) Loaded laws passed refl q same (λ s. begun ∙ ap b.start count)
 
 -- step
 module _ {M : Meaning} (b : State M) (m : Move) where
@@ -94,13 +86,6 @@ module _ {M : Meaning} (b : State M) (m : Move) where
 
   abbrev second : Option Fault
   second = refuse_if (not (M.own m)) ForeignMove third
-
-  pub step_improper : (Proper m → ⊥) → refusal M b.start b.model (step m) ≡ Some (fault BadLabel 0)
-  step_improper never = refuses (not (is_proper m)) BadLabel second (at (is_proper m) refl)
-    where
-      at : (t : Bool) → is_proper m ≡ t → not t ≡ true
-      at true e = absurd (never ((proper_exact m).0 e))
-      at false e = refl
 
   proper_passes : Proper m → refusal M b.start b.model (step m) ≡ second
   proper_passes p = passes (not (is_proper m)) BadLabel second (not_from_true (is_proper m) ((proper_exact m).1 p))
@@ -157,73 +142,67 @@ module _ {M : Meaning} (b : State M) (m : Move) where
     room a laws p v =
         omega (arith, bounded laws s.few (run_join s.run (run_one p v)), (laws.beginning b.model.words s.few).limit, length_push b.model.moves m)
 
--- undo, by what the replay and the cut did
-pub undo_none : (M : Meaning) (start : ℕ → M.Config) (b : Model) → length b.moves ≤ floor b.checkpoint → refusal M start b undo ≡ Some (fault NothingToUndo 0)
-undo_none M start b l = refuses (leb (length b.moves) (floor b.checkpoint)) NothingToUndo None (le-leb _ _ l)
+-- a permitted move was made
+pub stepped : {M : Meaning} (b : State M) (m : Move) (a : Option Arc) {ms : List Move} {c : M.Config} {u : ℕ → M.Config} → Laws M b.start → Proper m → M.verdict b.at m ≡ Ok a →
+    ms ≡ b.model.moves ++ (m ∷ []) → c ≡ M.next b.at m → u ≡ b.start → Sound M b → Served M b (step m) (Ok (Made 1)) (record { model = with_moves b.model ms; at = c; start = u })
+stepped b m a laws p v q i e s = served_ok b _ (step m) (Made 1) laws (step_free b m s laws a p v) refl (ap (with_moves b.model) q) e (λ s'. step_at b m s _ i)
 
--- the moves that a replay makes again
-abbrev pub Again : (M : Meaning) (b : State M) → ℕ → M.Config → Type 0
-Again M b k c = (d : M.Config) → Run M (b.start b.model.words) b.model.moves d → c ≡ after M (b.start b.model.words) (take k b.model.moves)
+-- undo, by going back
+pub undone : {M : Meaning} (b : State M) (k : ℕ) {d : State M} → Laws M b.start → floor b.model.checkpoint < length b.model.moves → k ≡ length b.model.moves - 1 →
+    WentBack M b k d → Served M b undo (Ok (Removed 1)) d
+undone {M} b k {d} laws l e back =
+    let m : d.model ≡ with_moves b.model (take (length b.model.moves - 1) b.model.moves) = back.model ∙ ap (λ (x : ℕ). with_moves b.model (take x b.model.moves)) e in
+    served_ok b d undo (Removed 1) laws (passes (leb (length b.model.moves) (floor b.model.checkpoint)) NothingToUndo None (lt-leb _ _ l)) refl m back.same
+    (λ s. back.at s ∙ ap (config M b.start) m)
 
-pub undone : {M : Meaning} (b : State M) (k : ℕ) {ms : List Move} {c : M.Config} {u : ℕ → M.Config} → Laws M b.start → Sound M b → floor b.model.checkpoint < length b.model.moves → k ≡ length b.model.moves - 1 →
-    ms ≡ take k b.model.moves → Again M b k c → u ≡ b.start → Served M b undo (Removed 1) (record { model = with_moves b.model ms; at = c; start = u })
-undone {M} b k {ms} {c} {u} laws s l e q again f =
-    let i : take k b.model.moves ≡ take (length b.model.moves - 1) b.model.moves = ap (λ (x : ℕ). take x b.model.moves) e in
-    served_ok b _ undo (Removed 1) laws s (passes (leb (length b.model.moves) (floor b.model.checkpoint)) NothingToUndo None (lt-leb _ _ l)) refl (ap (with_moves b.model) (q ∙ i)) f
-    (again b.at s.run ∙ ap (after M (b.start b.model.words)) i)
-
--- checkpoint
-pub checkpoint_standing : (M : Meaning) (start : ℕ → M.Config) (b : Model) (j : ℕ) → b.checkpoint ≡ Some j → refusal M start b checkpoint ≡ Some (fault CheckpointStands 0)
-checkpoint_standing M start b j k = refuses (is_some b.checkpoint) CheckpointStands None (stands _ j k)
-
-pub checkpoint_free : (M : Meaning) (start : ℕ → M.Config) (b : Model) → b.checkpoint ≡ None → refusal M start b checkpoint ≡ None
-checkpoint_free M start b k = passes (is_some b.checkpoint) CheckpointStands None (free _ k)
-
--- commit and rollback
-pub ticket_none : (b : Model) (t : ℕ) → b.checkpoint ≡ None → refuse_if (not (does_fit b t)) NoSuchCheckpoint None ≡ Some (fault NoSuchCheckpoint 0)
-ticket_none b t k = refuses (not (does_fit b t)) NoSuchCheckpoint None (not_from_false (does_fit b t) (and_left (is_some b.checkpoint) (eqb b.epoch t) (free _ k)))
-
-pub ticket_other : (b : Model) (t : ℕ) → (b.epoch ≡ t → ⊥) → refuse_if (not (does_fit b t)) NoSuchCheckpoint None ≡ Some (fault NoSuchCheckpoint 0)
-ticket_other b t never = refuses (not (does_fit b t)) NoSuchCheckpoint None (not_from_false (does_fit b t) (and_right (is_some b.checkpoint) (eqb b.epoch t) (ne_eqb _ _ never)))
+-- rollback, by going back
+stands : (k : Option ℕ) (j : ℕ) → k ≡ Some j → is_some k ≡ true
+stands k j e = ap (λ (x : Option ℕ). is_some x) e
 
 pub ticket_fits : (b : Model) (t j : ℕ) → b.checkpoint ≡ Some j → b.epoch ≡ t → refuse_if (not (does_fit b t)) NoSuchCheckpoint None ≡ None
 ticket_fits b t j k e = passes (not (does_fit b t)) NoSuchCheckpoint None (not_from_true (does_fit b t) (and_from (is_some b.checkpoint) (eqb b.epoch t) (stands _ j k) (eq-eqb _ _ e)))
 
-pub rolled : {M : Meaning} (b : State M) (k n t : ℕ) {ms : List Move} {c : M.Config} {u : ℕ → M.Config} → Laws M b.start → Sound M b → b.model.checkpoint ≡ Some k → b.model.epoch ≡ t → n ≡ length b.model.moves - k →
-    ms ≡ take k b.model.moves → Again M b k c → u ≡ b.start → Served M b (rollback t) (Removed n) (record { model = with_checkpoint (with_moves b.model ms) None; at = c; start = u })
-rolled {M} b k n t {ms} {c} {u} laws s e f l q again g =
-    let i : floor b.model.checkpoint ≡ k = ap floor e in
-    let j : take k b.model.moves ≡ take (floor b.model.checkpoint) b.model.moves = ap (λ (x : ℕ). take x b.model.moves) (sym i) in
-    served_ok b _ (rollback t) (Removed n) laws s (ticket_fits b.model t k e f)
-    (ap (λ (x : ℕ). Removed (length b.model.moves - x)) i ∙ ap Removed (sym l))
-    (ap (λ (xs : List Move). with_checkpoint (with_moves b.model xs) None) (q ∙ j)) g
-    (again b.at s.run ∙ ap (after M (b.start b.model.words)) j)
+pub rolled : {M : Meaning} (b : State M) (k n t : ℕ) {d : State M} → Laws M b.start → b.model.checkpoint ≡ Some k → b.model.epoch ≡ t → n ≡ length b.model.moves - k →
+    WentBack M b k d → Served M b (rollback t) (Ok (Removed n)) (record { model = with_checkpoint d.model None; at = d.at; start = d.start })
+rolled {M} b k n t {d} laws e f l back =
+    let i : k ≡ floor b.model.checkpoint = sym (ap floor e) in
+    let m : with_checkpoint d.model None ≡ with_checkpoint (with_moves b.model (take (floor b.model.checkpoint) b.model.moves)) None =
+    ap (λ (y : Model). with_checkpoint y None) back.model ∙ ap (λ (x : ℕ). with_checkpoint (with_moves b.model (take x b.model.moves)) None) i in
+    served_ok b _ (rollback t) (Removed n) laws (ticket_fits b.model t k e f) (ap (λ (x : ℕ). Removed (length b.model.moves - x)) (sym i) ∙ ap Removed (sym l)) m back.same
+    (λ s. back.at s ∙ ap (config M b.start) m)
 
--- a move of a run, made again
-nth_more : (xs : List Move) (i : ℕ) (m : Move) → slice_get xs i ≡ Some m → take (i + 1) xs ≡ take i xs ++ (m ∷ [])
-nth_more xs i m e =
-    elim (cases_lt i (length xs)) [
-      | inl h ↦ (let k : get_or xs i m ≡ m = cc (slice_get-get_or xs i m h) in take_more xs i m h ∙ ap (λ (j : Move). take i xs ++ (j ∷ [])) k)
-      | inr h ↦ no_way (cc (slice_get_past xs i h))
-    ]
+-- going back to the first k moves
+pub went_back : {M : Meaning} (b : State M) (k : ℕ) {ms : List Move} {c : M.Config} {u : ℕ → M.Config} → ms ≡ take k b.model.moves → u ≡ b.start →
+    ((d : M.Config) → Run M (b.start b.model.words) ms d → c ≡ d) → WentBack M b k (record { model = with_moves b.model ms; at = c; start = u })
+went_back {M} b k {ms} {c} q e again = record {
+  model = ap (with_moves b.model) q;
+  same = e;
+  at = λ s. again _ (subst (λ (xs : List Move). Run M (b.start b.model.words) xs (after M (b.start b.model.words) xs)) (sym q) (run_take M k s.run));
+}
 
-pub nth_no_more : (xs : List Move) (i : ℕ) → slice_get xs i ≡ None → take (i + 1) xs ≡ take i xs
-nth_no_more xs i e =
-    elim (cases_lt i (length xs)) [
-      | inl h ↦ no_way (cc (slice_get-get_or xs i Shift h))
-      | inr h ↦ take_all (i + 1) xs (omega arith) ∙ sym (take_all i xs h)
-    ]
+-- no further back than the checkpoint
+pub back_sound : {M : Meaning} (b : State M) (k : ℕ) {d : State M} → floor b.model.checkpoint ≤ k → WentBack M b k d → Sound M b → Sound M d
+back_sound {M} b k {d} l back s =
+    let h = sound_lawful b s in
+    let most : floor b.model.checkpoint ≤ length b.model.moves = within_floor b.model.checkpoint (length b.model.moves) s.within in
+    let less : Lawful M b.start (with_moves b.model (take k b.model.moves)) = record {
+      few = h.few;
+      run = run_take M k h.run;
+      within = floor_within b.model.checkpoint (length (take k b.model.moves)) (omega (arith, length-take k b.model.moves));
+    } in
+    lawful_sound d back.same (back.at s) (subst (Lawful M b.start) (sym back.model) less)
 
-run_at : (M : Meaning) (i : ℕ) (m : Move) {c d : M.Config} {ms : List Move} → Run M c ms d → slice_get ms i ≡ Some m → (a : Option Arc) × (M.verdict (after M c (take i ms)) m ≡ Ok a)
-run_at M i m Run.stay n = no_way (cc)
-run_at M zero m (Run.move {c = c} {m = k} {a = a} p v r) n = (a, (let e : k ≡ m = cc in subst (λ (x : Move). M.verdict c x ≡ Ok a) e v))
-run_at M (suc i) m (Run.move p v r) n = run_at M i m r n
+-- a move of a run is permitted, and leads to where the rest of the run begins
+pub run_next : {M : Meaning} {c d e : M.Config} {m : Move} {ms : List Move} (Q : Fault → Type 0) (r : Verdict) → Run M c (m ∷ ms) d → r ≡ M.verdict c m → MatchResult r (λ _. e ≡ M.next c m) Q → Run M e ms d
+run_next {M} {d = d} {ms = ms} Q (Ok a) (Run.move p v rest) same next = subst (λ (x : M.Config). Run M x ms d) (sym next) rest
+run_next Q (Err f) (Run.move p v rest) same next = no_way (cc)
 
-pub run_again : (M : Meaning) {c d e f : M.Config} {ms : List Move} (Q : Fault → Type 0) (i : ℕ) (m : Move) (r : Verdict) →
-    Run M c ms d → slice_get ms i ≡ Some m → e ≡ after M c (take i ms) → r ≡ M.verdict e m → MatchResult r (λ _. f ≡ M.next e m) Q → f ≡ after M c (take (i + 1) ms)
-run_again M {c = c} {e = e} {f = f} {ms = ms} Q i m (Ok a) r n s v w =
-    w ∙ ap (λ (x : M.Config). M.next x m) s ∙ sym (after_join M c (take i ms) (m ∷ [])) ∙ ap (after M c) (sym (nth_more ms i m n))
-run_again M {c = c} {e = e} {ms = ms} Q i m (Err x) r n s v w =
-    let (a, k) = run_at M i m r n in
-    let t : ◌≡◌ {A = Verdict} (Err x) (Ok a) = v ∙ ap (λ (y : M.Config). M.verdict y m) s ∙ k in
-    no_way (cc)
+pub run_none : {M : Meaning} {c d : M.Config} {ms : List Move} → Run M c ms d → ms ≡ [] → c ≡ d
+run_none Run.stay e = refl
+run_none (Run.move p v rest) e = no_way (cc)
+
+-- a new workbench
+pub new_sound : {M : Meaning} {start u : ℕ → M.Config} {ms : List Move} {c : M.Config} → Laws M start → ms ≡ [] → u ≡ start → c ≡ start 0 → Sound M (holding 0 0 ms None c u)
+new_sound {M} {start} {u} {ms} {c} laws none same begun =
+    let e : ◌≡◌ {A = Model} (record { words = 0; epoch = 0; moves = ms; checkpoint = None }) new_model = λ i. record { words = 0; epoch = 0; moves = none i; checkpoint = None } in
+    lawful_sound (holding 0 0 ms None c u) same (begun ∙ ap (config M start) (sym e)) (subst (Lawful M start) (sym e) (new_lawful laws))

@@ -1,5 +1,6 @@
 -- What the model answers to a call, and what the call leaves: three tables, one line a call.
-use Rattle.std.specs.Prelude.{ℕ, ◌-◌, Bool, cond, not, ◌&&◌, List, [], ◌∷◌, ◌++◌, length, take, is_some, Some, None, Ok, Err, Option, ◌==◌, nat_le, nat_lt}
+use Rattle.std.specs.Prelude.{ℕ, ◌-◌, Bool, cond, not, ◌&&◌, List, [], ◌∷◌, ◌++◌, length, take, is_some, Some, None, Ok, Err, Option, Result, ◌==◌, nat_le, nat_lt}
+use Rattle.std.specs.Option.{unwrap_or}
 use Rattle.treebank.specs.declared.moves.Move.{Move}
 use Rattle.treebank.specs.declared.refusals.Refusal.{Refusal}
 use Rattle.treebank.specs.declared.refusals.Refusal.TheVariants.{TooManyWords, BadLabel, ForeignMove, WrongRowCount, BadRow, Finished, Unreachable, NothingToUndo, CheckpointStands, NoSuchCheckpoint}
@@ -7,10 +8,14 @@ use Rattle.treebank.specs.Tables.{are_good_rows}
 use Rattle.transition.specs.declared.faults.Fault.{Fault}
 use Rattle.transition.specs.Meaning.{Meaning, Verdict, fault}
 use Rattle.workbench_model.specs.declared.answers.Answer.{Answer}
-use Rattle.workbench_model.specs.declared.answers.Answer.TheVariants.{Loaded, Made, Removed, CheckpointSet, Committed, Refused}
+use Rattle.workbench_model.specs.declared.answers.Answer.TheVariants.{Loaded, Made, Removed, CheckpointSet, Committed}
 use Rattle.workbench_model.specs.Models.{Model, Call, config}
 use Rattle.workbench_model.specs.Models.Call.{load, step, undo, checkpoint, commit, rollback, derive}
 use Rattle.workbench_model.specs.Derivations.{is_proper, derivation}
+
+-- what a call comes to: an answer, or why it is refused
+abbrev pub Outcome : Type 0
+Outcome = Result Answer Fault
 
 abbrev pub with_moves : Model → List Move → Model
 with_moves b ms = record { words = b.words; epoch = b.epoch; moves = ms; checkpoint = b.checkpoint }
@@ -20,8 +25,7 @@ with_checkpoint b k = record { words = b.words; epoch = b.epoch; moves = b.moves
 
 -- how many moves the checkpoint notes, 0 for none: no undo takes them
 abbrev pub floor : Option ℕ → ℕ
-floor None = 0
-floor (Some k) = k
+floor k = unwrap_or k 0
 
 abbrev pub moves_of : Option (List Move) → List Move
 moves_of None = []
@@ -77,9 +81,9 @@ change M start b (rollback t) = with_checkpoint (with_moves b (take (floor b.che
 change M start b (derive w) = with_moves b (b.moves ++ moves_of (derivation M w (config M start b)))
 
 -- a refused call changes nothing
-abbrev pub unless : Option Fault → Model → Answer → Model → Answer × Model
-unless None b a d = (a, d)
-unless (Some f) b a d = (Refused f, b)
+abbrev pub unless : Option Fault → Model → Answer → Model → Outcome × Model
+unless None b a d = (Ok a, d)
+unless (Some f) b a d = (Err f, b)
 
-abbrev pub serve : (M : Meaning) → (ℕ → M.Config) → Model → Call → Answer × Model
+abbrev pub serve : (M : Meaning) → (ℕ → M.Config) → Model → Call → Outcome × Model
 serve M start b call = unless (refusal M start b call) b (report M start b call) (change M start b call)

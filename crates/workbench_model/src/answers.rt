@@ -1,15 +1,13 @@
 use std::fmt;
-use transition::faults::Fault;
 
-/// What a workbench answers to a call: how many moves were made or removed, or why the call was refused.
-#[derive(Clone, Copy, Debug)]
+/// What a workbench answers to a call that it accepts: among it how many moves were made or removed.
+#[derive(Clone, Copy, Debug, PartialEq, Eq)]
 pub enum Answer {
     Loaded,
     Made(usize),
     Removed(usize),
     CheckpointSet,
     Committed,
-    Refused(Fault),
 }
 
 impl fmt::Display for Answer {
@@ -20,7 +18,6 @@ impl fmt::Display for Answer {
             Answer::Removed(moves) => write!(f, "removed {moves}"),
             Answer::CheckpointSet => f.write_str("checkpoint set"),
             Answer::Committed => f.write_str("committed"),
-            Answer::Refused(fault) => write!(f, "refused {fault}"),
         }
     }
 }

@@ -6,7 +6,6 @@ ghost use Rattle.workbench_model.specs.States.{Sound};
 ghost use Rattle.workbench.specs.Workbenches.{model_of, state, Serves, answer_of, StepFault, Drawn};
 
 use super::Workbench;
-use super::replaying::replay;
 use history::history::History;
 use transition::faults::Fault;
 use transition::system::System;
@@ -15,17 +14,27 @@ use treebank::moves::Move;
 use treebank::refusals::Refusal;
 use treebank::words::WordCount;
 
+/// Why a step was refused, by the fault that the system gave: foreign moves first, then a finished sentence.
+fn step_fault<S: System>(system: &S, fault: Fault) -> Fault
+    ensures { StepFault (S.System.meaning.finished (S.System.conf system.now)) fault result }
+{
+    if fault.refusal == Refusal::ForeignMove {
+        return Fault::from(Refusal::ForeignMove);
+    }
+    if system.finished() {
+        return Fault::from(Refusal::Finished);
+    }
+    fault
+}
+
 impl<S: System> Workbench<S> {
     /// A workbench newly loaded with no words under epoch 0.
-    pub fn new(system: S) -> Workbench<S>
+    pub fn new(mut system: S) -> Workbench<S>
         ensures model { model_of result ≡ new_model }
         ensures same { S.System.start result.system ≡ S.System.start system }
-        ensures sound { Sound S.System.meaning (state S.System.meaning S.System.conf S.System.start result) }
+        ensures sound { Sound S.System.meaning (state result) }
     {
-        let mut system = system;
-        let Ok(words) = WordCount::new(0) else {
-            unreachable()
-        };
+        let words = WordCount::NONE;
         system.begin(words);
         Workbench {
             system,
@@ -38,9 +47,9 @@ impl<S: System> Workbench<S> {
 
     /// Starts a sentence: `CheckpointStands` while a checkpoint stands, then `TooManyWords` over 100.
     pub fn load(&mut self, words: usize, epoch: u32) -> Result<(), Fault>
-        ensures { Serves S.System.meaning S.System.conf S.System.start self.old (load_call words epoch) (answer_of (λ _. Loaded) result) self.new }
+        ensures { Serves self.old (load_call words epoch) (answer_of (λ _. Loaded) result) self.new }
     {
-        if let Some(_) = self.checkpoint {
+        if self.checkpoint.is_some() {
             return Err(Fault::from(Refusal::CheckpointStands));
         }
         let words = WordCount::new(words)?;
@@ -51,51 +60,36 @@ impl<S: System> Workbench<S> {
         Ok(())
     }
 
-    /// Why a step was refused, by the fault that the system gave: foreign moves first, then a finished sentence.
-    fn step_fault(&self, fault: Fault) -> Fault
-        ensures { StepFault (S.System.meaning.finished (S.System.conf self.now.system)) fault result }
-    {
-        if let Refusal::ForeignMove = fault.refusal {
-            return Fault::from(Refusal::ForeignMove);
-        }
-        if self.system.finished() {
-            return Fault::from(Refusal::Finished);
-        }
-        fault
-    }
-
     /// Makes a move and answers the arc that it drew: `BadLabel` for a label that is not 1 to 200, then `ForeignMove`,
     /// then `Finished`, then what the system refuses.
     pub fn step(&mut self, m: Move) -> Result<Option<Arc>, Fault>
-        ensures served { Serves S.System.meaning S.System.conf S.System.start self.old (step_call m) (answer_of (λ _. Made 1) result) self.new }
-        ensures drawn { Drawn S.System.meaning (S.System.conf self.old.system) m result }
+        ensures served { Serves self.old (step_call m) (answer_of (λ _. Made 1) result) self.new }
+        ensures drawn { Drawn self.old m result }
     {
         if !m.is_proper() {
             return Err(Fault::from(Refusal::BadLabel));
         }
+        // By cases: with `map_err(..)?` goals stayed open, whose facts stood inside of it alone.
         match self.system.step(m) {
             Ok(arc) => {
-                let _ = self.history.push(m);
+                let Ok(()) = self.history.push(m) else {
+                    unreachable!("the ceiling leaves room for each permitted move")
+                };
                 Ok(arc)
             }
-            Err(fault) => Err(self.step_fault(fault)),
+            Err(fault) => Err(step_fault(&self.system, fault)),
         }
     }
 
     /// Takes the last move back: `NothingToUndo` where none stands behind the checkpoint.
     pub fn undo(&mut self) -> Result<(), Fault>
-        ensures { Serves S.System.meaning S.System.conf S.System.start self.old undo_call (answer_of (λ _. Removed 1) result) self.new }
+        ensures { Serves self.old undo_call (answer_of (λ _. Removed 1) result) self.new }
     {
         let len = self.history.len();
-        let floor = match self.checkpoint {
-            Some(count) => count,
-            None => 0,
-        };
-        if len <= floor {
+        if len <= self.checkpoint.unwrap_or(0) {
             return Err(Fault::from(Refusal::NothingToUndo));
         }
-        replay(&mut self.system, &self.history, self.words, len - 1);
-        self.history.cut(len - 1);
+        self.go_back_to(len - 1);
         Ok(())
     }
 }

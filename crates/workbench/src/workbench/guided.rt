@@ -1,12 +1,10 @@
 ghost use Rattle.std.specs.Prelude.{◌≡◌};
-ghost use Rattle.history.specs.Standing.{standing};
 ghost use Rattle.workbench_model.specs.declared.answers.Answer.TheVariants.{Made};
 ghost use Rattle.workbench_model.specs.Models.Call.{derive as derive_call};
 ghost use Rattle.workbench_model.specs.Advances.{Went};
 ghost use Rattle.workbench.specs.Workbenches.{Serves, ReachTold, answer_of};
 
 use super::Workbench;
-use super::replaying::replay;
 use guidance::building::has_arcs;
 use guidance::guided::Guided;
 use history::history::History;
@@ -19,9 +17,10 @@ use treebank::tables::is_good_table;
 
 /// Makes the moves that the advice names, until the sentence is finished or it leads no further; answers whether it is
 /// finished.
+// Over the two parts: in between the workbench is not sound, as its type has it.
 fn follow<S: Guided>(system: &mut S, history: &mut History, table: &[Row]) -> bool
     ensures went { Went S.System.meaning (S.System.start system.old) table.now
-        (standing history.old) (S.System.conf system.old) result (standing history.new) (S.System.conf system.new) }
+        history.old (S.System.conf system.old) result history.new (S.System.conf system.new) }
     ensures alike { S.System.start system.new ≡ S.System.start system.old }
 {
     while history.len() < History::CAPACITY {
@@ -31,10 +30,12 @@ fn follow<S: Guided>(system: &mut S, history: &mut History, table: &[Row]) -> bo
         let Some(m) = system.advice(table) else {
             return false;
         };
-        if let Err(_) = make_move(system, m) {
+        let Ok(_) = make_move(system, m) else {
             return false;
-        }
-        let _ = history.push(m);
+        };
+        let Ok(()) = history.push(m) else {
+            unreachable!()
+        };
     }
     system.finished()
 }
@@ -44,8 +45,8 @@ impl<S: Guided> Workbench<S> {
     /// than words, then `BadRow`, then `Unreachable` where the advice does not lead to the table: with reliable advice,
     /// exactly where it cannot be reached.
     pub fn derive(&mut self, table: &[Row]) -> Result<usize, Fault>
-        ensures served { Serves S.System.meaning S.System.conf S.System.start self.old (derive_call table.now) (answer_of (λ n. Made n) result) self.new }
-        ensures reach { ReachTold S.System.meaning S.System.conf S.System.start S.Guided.reliable self.old table.now (answer_of (λ n. Made n) result) self.new }
+        ensures served { Serves self.old (derive_call table.now) (answer_of (λ n. Made n) result) self.new }
+        ensures reach { ReachTold S.Guided.reliable self.old table.now (answer_of (λ n. Made n) result) self.new }
     {
         if table.len() != self.words.get() as usize {
             return Err(Fault::from(Refusal::WrongRowCount));
@@ -54,13 +55,12 @@ impl<S: Guided> Workbench<S> {
             return Err(Fault::from(Refusal::BadRow));
         }
         let before = self.history.len();
-        if follow(&mut self.system, &mut self.history, table) {
-            if has_arcs(&self.system, self.words, table) {
-                return Ok(self.history.len().saturating_sub(before));
-            }
+        if follow(&mut self.system, &mut self.history, table)
+            && has_arcs(&self.system, self.words, table)
+        {
+            return Ok(self.history.len() - before);
         }
-        replay(&mut self.system, &self.history, self.words, before);
-        self.history.cut(before);
+        self.go_back_to(before);
         Err(Fault::from(Refusal::Unreachable))
     }
 }

@@ -1,11 +1,13 @@
 ghost use Rattle.std.specs.Prelude.{◌≡◌, length, is_some};
 ghost use Rattle.std.specs.List.{slice_get};
-ghost use Rattle.workbench_model.specs.Rows.{row_of};
-ghost use Rattle.workbench_model.specs.States.{Sound};
-ghost use Rattle.workbench.specs.Workbenches.{model_of, state};
+ghost use Rattle.std.specs.Iterator.{YieldsFirst};
+ghost use Rattle.std.specs.Iterator.Runs.{YieldsInOrder};
+ghost use Rattle.treebank.specs.declared.moves.Move.{Move};
+ghost use Rattle.workbench.specs.Workbenches.{model_of};
 ghost use Rattle.workbench.specs.Writing.{WroteRows, RowsSay};
 
 use super::Workbench;
+use history::iter::Moves;
 use transition::faults::Fault;
 use transition::system::System;
 use treebank::arcs::Arc;
@@ -13,22 +15,6 @@ use treebank::moves::Move;
 use treebank::refusals::Refusal;
 use treebank::rows::Row;
 use treebank::words::WordCount;
-
-/// The row of a word with this arc.
-fn row_of(arc: Option<Arc>) -> Row
-    ensures { result ≡ row_of arc }
-{
-    match arc {
-        Some(arc) => Row {
-            head: arc.head,
-            label: arc.label,
-        },
-        None => Row {
-            head: Row::NO_HEAD,
-            label: 0,
-        },
-    }
-}
 
 impl<S: System> Workbench<S> {
     /// How many words the sentence has.
@@ -50,6 +36,14 @@ impl<S: System> Workbench<S> {
         ensures { result ≡ length (model_of self.now).moves }
     {
         self.history.len()
+    }
+
+    /// The moves standing, oldest first.
+    pub fn moves(&self) -> Moves<'_>
+        ensures moves { result ≡ (model_of self.now).moves }
+        ensures runs { YieldsInOrder (YieldsFirst {A = Move} (λ rest. rest)) (λ rest. rest) }
+    {
+        self.history.iter()
     }
 
     /// The move standing at a place from 0 on, or none behind the last.
@@ -97,16 +91,15 @@ impl<S: System> Workbench<S> {
     /// Writes the row of each word into the lent rows and answers how many; later rows stay. `BufferTooSmall`, with
     /// nothing written, where fewer rows are lent than there are words.
     pub fn write_rows(&self, rows: &mut [Row]) -> Result<usize, Fault>
-        ensures wrote { WroteRows S.System.meaning (S.System.conf self.now.system) self.now.words.count rows.old result rows.new }
-        ensures table { Sound S.System.meaning (state S.System.meaning S.System.conf S.System.start self.now)
-            → RowsSay (S.System.meaning.arcs (S.System.conf self.now.system)) self.now.words.count result rows.new }
+        ensures wrote { WroteRows self.now rows.old result rows.new }
+        ensures table { RowsSay self.now result rows.new }
     {
         let words = self.words.get();
         if rows.len() < words as usize {
             return Err(Fault::from(Refusal::BufferTooSmall));
         }
-        for word in 0..words {
-            rows[word as usize] = row_of(self.system.arc_into(word + 1));
+        for (i, row) in rows[..words as usize].iter_mut().enumerate() {
+            *row = Row::from(self.system.arc_into(i as u8 + 1));
         }
         Ok(words as usize)
     }

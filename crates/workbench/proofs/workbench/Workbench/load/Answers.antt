@@ -1,23 +1,18 @@
-use Rattle.std.proofs.Common.{◌≡◌, [], None, refl, ap, ◌∙◌}
-use Rattle.history.specs.Standing.{standing}
-use Rattle.workbench_model.specs.declared.answers.Answer.TheVariants.{Loaded}
-use Rattle.workbench_model.specs.Models.{Model}
-use Rattle.workbench_model.specs.Models.Call.{load}
-use Rattle.workbench_model.proofs.Serves.{served_ok, load_free}
+use Rattle.std.proofs.Math.Logic.{∥∥₁_map}
+use Rattle.std.proofs.Common.{sym}
+use Rattle.workbench_model.proofs.Serves.{loaded}
 use Rattle.workbench.specs.Workbenches.{state}
 use Rattle.workbench.proofs.workbench.Workbench.load.Goals as goal
 
-pub returns : goal.returns
-returns g c = λ s.
-    let M = g.S.System.meaning in
-    let start = g.S.System.start c.args.self.now.system in
-    let b = state M g.S.System.conf g.S.System.start c.args.self.now in
-    let n = c.args.words in
+pub invariant_of-self : goal.invariant_of-self
+invariant_of-self g c =
+    let b = state c.args.self.now in
     let (few, count) = c.in_ok-words.ensures in
-    let free : c.args.self.now.checkpoint ≡ None = c.in_default.is in
-    let none : standing c.cut.new.self ≡ [] = c.cut.ensures in
-    let m : ◌≡◌ {A = Model} (record { words = c.in_ok-words.words.count; epoch = c.args.epoch; moves = standing c.cut.new.self; checkpoint = c.args.self.now.checkpoint })
-    (record { words = n; epoch = c.args.epoch; moves = []; checkpoint = None }) =
-    λ i. record { words = count i; epoch = c.args.epoch; moves = none i; checkpoint = free i } in
-    served_ok b _ (load n c.args.epoch) Loaded (g.met.S.System.laws c.args.self.now.system) s
-    (load_free M start b.model n c.args.epoch free few) refl m c.begin.ensures.alike (c.begin.ensures.begun ∙ ap start count)
+    let v = loaded b c.args.words c.args.epoch (g.met.S.System.laws c.args.self.now.system) (sym c.if-is_some.ensures) few count c.cut.ensures c.begin.ensures.alike c.begin.ensures.begun in
+    record { sound = ∥∥₁_map c.args.self.now.sound v.sound }
+
+pub returns : goal.returns
+returns g c =
+    let b = state c.args.self.now in
+    let (few, count) = c.in_ok-words.ensures in
+    loaded b c.args.words c.args.epoch (g.met.S.System.laws c.args.self.now.system) (sym c.if-is_some.ensures) few count c.cut.ensures c.begin.ensures.alike c.begin.ensures.begun

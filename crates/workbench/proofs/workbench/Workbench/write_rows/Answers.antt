@@ -1,23 +1,25 @@
-use Rattle.std.proofs.Common.{◌≡◌, ◌<◌, ◌≤◌, length, ap, ◌∙◌, arith}
-use Rattle.workbench_model.specs.Rows.{row_of}
+use Rattle.std.proofs.Common.{◌≡◌, ℕ, ◌≤◌, List, ◌++◌, length, take, drop, refl, ◌∙◌, ap₂, arith}
+use Rattle.std.proofs.lemmas.List.{length-take-le, take-append-le, take_all}
+use Rattle.treebank.specs.declared.rows.Row.{Row}
+use Rattle.workbench_model.specs.Rows.{config_rows}
 use Rattle.workbench.specs.Workbenches.{state}
-use Rattle.workbench.proofs.Written.{row_more, rows_all, rows_table}
+use Rattle.workbench.proofs.Written.{all_written, merely_table}
 use Rattle.workbench.proofs.workbench.Workbench.write_rows.Goals as goal
-
-pub loop-word-preserved : goal.loop-word-preserved
-loop-word-preserved g c =
-    let l : c.loop-word.word < length c.loop-word.rows = omega arith in
-    row_more g.S.System.meaning (g.S.System.conf c.args.self.now.system) c.args.rows.now c.loop-word.word c.loop-word.rows c.row_of.result l
-    (c.row_of.ensures ∙ ap row_of c.arc_into.ensures) c.loop-word.invariant.0 c.loop-word.invariant.1
 
 pub returns : goal.returns
 returns g c =
-    let M = g.S.System.meaning in
-    let b = state M g.S.System.conf g.S.System.start c.args.self.now in
-    let n = c.args.self.now.words.count in
-    let few : n ≤ length c.args.rows.now = omega arith in
-    let all : c.loop-word.word ≡ n = omega arith in
+    let x = c.args.self.now in
+    let n = x.words.count in
+    let before = c.args.rows.now in
+    let rows = c.loop-i.row-items in
+    let e : c.get-words.result ≡ n = c.get-words.ensures in
+    let few : n ≤ length before = omega arith in
+    let long : length rows ≡ n = c.loop-i.auto.row-items ∙ length-take-le c.get-words.result before c.if-rows-words.false ∙ e in
+    let all : c.loop-i.i ≡ n = omega (arith, length-take-le c.get-words.result before c.if-rows-words.false) in
+    let is : rows ≡ config_rows g.S.System.meaning (g.S.System.conf x.system) n = all_written g.S.System.meaning (g.S.System.conf x.system) n c.loop-i.i rows all long c.loop-i.invariant in
+    let front : take n (rows ++ drop c.get-words.result before) ≡ config_rows g.S.System.meaning (g.S.System.conf x.system) n =
+    take-append-le n rows (drop c.get-words.result before) (omega arith) ∙ take_all n rows (omega arith) ∙ is in
     record {
-      wrote = (few, c.get-words.ensures, rows_all M (g.S.System.conf c.args.self.now.system) c.args.rows.now n c.loop-word.word c.loop-word.rows all c.loop-word.invariant.0 c.loop-word.invariant.1);
-      table = λ s. rows_table b (g.met.S.System.laws c.args.self.now.system) s c.loop-word.word c.loop-word.rows all c.loop-word.invariant.0;
+      wrote = (few, e, ap₂ (λ (xs : List Row) (k : ℕ). xs ++ drop k before) is e);
+      table = merely_table (state x) (g.met.S.System.laws x.system) x.sound n (rows ++ drop c.get-words.result before) refl front;
     }

@@ -1,0 +1,5 @@
+use Rattle.std.proofs.Math.Logic.{∥∥₁_map}
+use Rattle.workbench.proofs.workbench.Workbench.commit.Goals as goal
+
+pub invariant_of-self : goal.invariant_of-self
+invariant_of-self g c = record { sound = ∥∥₁_map c.args.self.now.sound (λ s. record { few = s.few; run = s.run; within = tt }) }
