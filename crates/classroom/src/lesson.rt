@@ -1,37 +1,22 @@
 ghost use Rattle.std.specs.Prelude.{◌≡◌, [], ◌∷◌, None};
 ghost use Rattle.sequence.specs.Pouches.{epoch_of, epochs};
 
-use crate::scripts;
+use crate::scripts::{self, Turn};
 use arc_standard::system::ArcStandard;
 use layers::label_set::LabelSet;
 use layers::layer::Layer;
 use layers::one_root::OneRoot;
-use requests::kinds::Reply;
-use sequence::guided::{run_guided, serve_guided};
+use sequence::serving::{run, serve};
 use treebank::words::WordCount;
 use workbench::workbench::{Ticket, Workbench};
 
-/// What was said to the requests of a lesson.
-#[derive(Clone, Copy)]
-pub(crate) struct Said {
-    pub ann: [Reply; 8],
-    pub ben: [Reply; 8],
-    pub ann_again: [Reply; 8],
-    pub ben_again: [Reply; 8],
-}
-
 /// Arc-standard with the labels 1 to 3 and at most one arc from the root.
 fn course() -> Layer<LabelSet, Layer<OneRoot, ArcStandard>> {
-    let Ok(words) = WordCount::new(0) else {
-        unreachable()
-    };
     let mut marks = [false; 200];
-    marks[0] = true;
-    marks[1] = true;
-    marks[2] = true;
+    marks[..3].fill(true);
     Layer::new(
         LabelSet::new(marks),
-        Layer::new(OneRoot, ArcStandard::new(words)),
+        Layer::new(OneRoot, ArcStandard::new(WordCount::NONE)),
     )
 }
 
@@ -41,7 +26,7 @@ fn leave(place: Option<Ticket>)
 {
     match place {
         None => {}
-        Some(_ticket) => unreachable(),
+        Some(_ticket) => unreachable!(),
     }
 }
 
@@ -55,37 +40,24 @@ fn put_away(pouch: [Option<Ticket>; 2])
 }
 
 /// Serves the scripts in turn on the two workbenches; at the end no ticket is left.
-pub(crate) fn hold_lesson() -> Said {
-    let none = [Reply::NoTicket; 8];
-    let mut said = Said {
-        ann: none,
-        ben: none,
-        ann_again: none,
-        ben_again: none,
-    };
+pub(crate) fn hold_lesson() -> [Turn; 4] {
     let mut pouch = [None, None];
-    let Ok(mut ann) = run_guided(course(), &scripts::ANN, &mut pouch, &mut said.ann) else {
-        unreachable()
+    let mut first = scripts::ANN;
+    let mut second = scripts::BEN;
+    let mut third = scripts::ANN_AGAIN;
+    let mut fourth = scripts::BEN_AGAIN;
+    let Ok(mut ann) = run(course(), first.requests, &mut pouch, &mut first.replies) else {
+        unreachable!()
     };
-    let Ok(mut ben) = run_guided(course(), &scripts::BEN, &mut pouch, &mut said.ben) else {
-        unreachable()
+    let Ok(mut ben) = run(course(), second.requests, &mut pouch, &mut second.replies) else {
+        unreachable!()
     };
-    let Ok(()) = serve_guided(
-        &mut ann,
-        &scripts::ANN_AGAIN,
-        &mut pouch,
-        &mut said.ann_again,
-    ) else {
-        unreachable()
+    let Ok(()) = serve(&mut ann, third.requests, &mut pouch, &mut third.replies) else {
+        unreachable!()
     };
-    let Ok(()) = serve_guided(
-        &mut ben,
-        &scripts::BEN_AGAIN,
-        &mut pouch,
-        &mut said.ben_again,
-    ) else {
-        unreachable()
+    let Ok(()) = serve(&mut ben, fourth.requests, &mut pouch, &mut fourth.replies) else {
+        unreachable!()
     };
     put_away(pouch);
-    said
+    [first, second, third, fourth]
 }

@@ -1,4 +1,3 @@
 pub mod Lasting
 pub mod Ticketed
 pub mod Going
-pub mod Pouches

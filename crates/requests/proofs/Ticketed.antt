@@ -42,12 +42,12 @@ hands_out true b d p i e f g = λ k. tickets b.epoch (e k) p
 hands_out false b d p i e f g = λ k. tickets (f k) (g k) (set p i (Some b.epoch))
 
 -- a call that spends a ticket, by whether the ticket fits
-hands_in : (fit : Bool) (b d : Model) (a : Answer) (p : Pouch) (i : ℕ) → accepted (Answered a) ≡ true → d.epoch ≡ b.epoch → is_some d.checkpoint ≡ false →
+hands_in : (fit : Bool) (b d : Model) (a : Answer) (p : Pouch) (i : ℕ) → d.epoch ≡ b.epoch → is_some d.checkpoint ≡ false →
     (let r = unless (refuse_if (not fit) NoSuchCheckpoint None) b a d in
     tickets r.1.epoch (is_some r.1.checkpoint) (cond (accepted (Answered r.0)) (set p i None) p)
     ≡ cond fit (tickets b.epoch false (set p i None)) (tickets b.epoch (is_some b.checkpoint) p))
-hands_in true b d a p i e f g = λ k. tickets (f k) (g k) (cond (e k) (set p i None) p)
-hands_in false b d a p i e f g = refl
+hands_in true b d a p i f g = λ k. tickets (f k) (g k) (set p i None)
+hands_in false b d a p i f g = refl
 
 module _ (M : Meaning) (start : ℕ → M.Config) where
   next_out : (d : Desk) (i : ℕ) (x : Option (Option ℕ)) →
@@ -58,24 +58,24 @@ module _ (M : Meaning) (start : ℕ → M.Config) where
   next_out d i (Some (Some e)) = refl
 
   next_in : (d : Desk) (i : ℕ) (x : Option (Option ℕ)) (call : ℕ → Call) → ((e : ℕ) → refusal M start d.model (call e) ≡ refuse_if (not (does_fit d.model e)) NoSuchCheckpoint None) →
-      ((e : ℕ) → accepted (Answered (report M start d.model (call e))) ≡ true) → ((e : ℕ) → (change M start d.model (call e)).epoch ≡ d.model.epoch) →
+      ((e : ℕ) → (change M start d.model (call e)).epoch ≡ d.model.epoch) →
       ((e : ℕ) → is_some (change M start d.model (call e)).checkpoint ≡ false) →
       (let r = attend M start d.model (for_ticket call x) in
       tickets r.1.epoch (is_some r.1.checkpoint) (cond (accepted r.0) (set d.pouch i None) d.pouch) ≡ handed_in (tickets_of d) i x)
-  next_in d i None call why yes' same gone = refl
-  next_in d i (Some None) call why yes' same gone = refl
-  next_in d i (Some (Some e)) call why yes' same gone =
+  next_in d i None call why same gone = refl
+  next_in d i (Some None) call why same gone = refl
+  next_in d i (Some (Some e)) call why same gone =
       ap (λ (o : Option Fault). (let r = unless o d.model (report M start d.model (call e)) (change M start d.model (call e)) in
       tickets r.1.epoch (is_some r.1.checkpoint) (cond (accepted (Answered r.0)) (set d.pouch i None) d.pouch))) (why e)
-      ∙ hands_in (does_fit d.model e) d.model (change M start d.model (call e)) (report M start d.model (call e)) d.pouch i (yes' e) (same e) (gone e)
+      ∙ hands_in (does_fit d.model e) d.model (change M start d.model (call e)) (report M start d.model (call e)) d.pouch i (same e) (gone e)
 
   next_tickets : (d : Desk) (r : GuidedRequest) → tickets_of (next_desk M start d r) ≡ tickets_next (tickets_of d) r
   next_tickets d (Plain (Load n e)) = loads (is_some d.model.checkpoint) (ltb 100 n) d.model (change M start d.model (load n e)) Loaded d.pouch n e refl refl refl
   next_tickets d (Plain (Step m)) = quiet (refusal M start d.model (step m)) d.model (change M start d.model (step m)) (report M start d.model (step m)) d.pouch refl refl
   next_tickets d (Plain Undo) = quiet (refusal M start d.model undo) d.model (change M start d.model undo) (report M start d.model undo) d.pouch refl refl
   next_tickets d (Plain (Checkpoint i)) = next_out d i (slice_get d.pouch i)
-  next_tickets d (Plain (Commit i)) = next_in d i (slice_get d.pouch i) commit (λ e. refl) (λ e. refl) (λ e. refl) (λ e. refl)
-  next_tickets d (Plain (Rollback i)) = next_in d i (slice_get d.pouch i) rollback (λ e. refl) (λ e. refl) (λ e. refl) (λ e. refl)
+  next_tickets d (Plain (Commit i)) = next_in d i (slice_get d.pouch i) commit (λ e. refl) (λ e. refl) (λ e. refl)
+  next_tickets d (Plain (Rollback i)) = next_in d i (slice_get d.pouch i) rollback (λ e. refl) (λ e. refl) (λ e. refl)
   next_tickets d (Derive w) =
       quiet (refusal M start d.model (derive w.now)) d.model (change M start d.model (derive w.now)) (report M start d.model (derive w.now)) d.pouch refl refl
 

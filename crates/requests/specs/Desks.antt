@@ -1,9 +1,7 @@
 -- A workbench beside a pouch of tickets, and what a request does there.
-use Rattle.std.specs.Prelude.{◌≡◌, ℕ, Bool, true, false, cond, List, [], ◌∷◌, Some, None, Option, slice_set}
+use Rattle.std.specs.Prelude.{◌≡◌, ℕ, Bool, false, cond, List, [], ◌∷◌, Some, None, Option, is_ok, slice_set}
 use Rattle.std.specs.List.{slice_get}
 use Rattle.transition.specs.Meaning.{Meaning}
-use Rattle.workbench_model.specs.declared.answers.Answer.{Answer}
-use Rattle.workbench_model.specs.declared.answers.Answer.TheVariants.{Loaded, Made, Removed, CheckpointSet, Committed, Refused}
 use Rattle.workbench_model.specs.Models.{Model, Call, new_model}
 use Rattle.workbench_model.specs.Models.Call.{load, step, undo, checkpoint, commit, rollback, derive}
 use Rattle.workbench_model.specs.Serving.{serve}
@@ -56,16 +54,9 @@ abbrev pub asked : Pouch → GuidedRequest → Asked
 asked p (Plain r) = asked_plainly p r
 asked p (Derive w) = Asked.calls (derive w.now)
 
-abbrev pub accepted_call : Answer → Bool
-accepted_call Loaded = true
-accepted_call (Made n) = true
-accepted_call (Removed n) = true
-accepted_call CheckpointSet = true
-accepted_call Committed = true
-accepted_call (Refused f) = false
-
+-- a call was made, and was not refused
 abbrev pub accepted : Reply → Bool
-accepted (Answered a) = accepted_call a
+accepted (Answered a) = is_ok a
 accepted NoTicket = false
 accepted NoRoom = false
 
@@ -116,4 +107,4 @@ pub record Attended (M : Meaning) (s : State M) (p : Pouch) (r : GuidedRequest) 
   pub is : reply M s.start (desk s p) r ≡ a
   pub left : next_desk M s.start (desk s p) r ≡ desk t q
   pub same : t.start ≡ s.start
-  pub sound : Sound M t
+  pub sound : Sound M s → Sound M t

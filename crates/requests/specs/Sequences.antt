@@ -7,8 +7,8 @@ use Rattle.treebank.specs.Tables.{GoodTable}
 use Rattle.treebank.specs.Trees.{DependencyForest}
 use Rattle.transition.specs.Meaning.{Meaning}
 use Rattle.transition.specs.Runs.{Run}
-use Rattle.workbench_model.specs.declared.answers.Answer.{Answer}
 use Rattle.workbench_model.specs.Models.{Model, config}
+use Rattle.workbench_model.specs.Serving.{Outcome}
 use Rattle.workbench_model.specs.States.{State, Sound}
 use Rattle.workbench_model.specs.Lasting.{Tally, no_moves, count, Balanced, Led}
 use Rattle.requests.specs.declared.kinds.GuidedRequest.{GuidedRequest}
@@ -49,7 +49,7 @@ pub record SequenceLaw (M : Meaning) (start : ℕ → M.Config) (reliable : Type
   -- where the advice is reliable, a derive of a good table is refused exactly where the table cannot be reached from the configuration in which
   -- it found the workbench, and else leaves it finished with exactly the table's arcs
   pub led : reliable → (k : ℕ) (w : Bor (List Row)) → slice_get rs k ≡ Some (Derive w) → GoodTable (model_at M start p rs k).words w.now →
-      (a : Answer) × (slice_get told k ≡ Some (Answered a)) × Led M w.now (config M start (model_at M start p rs k)) a (config M start (model_at M start p rs (k + 1)))
+      (a : Outcome) × (slice_get told k ≡ Some (Answered a)) × Led M w.now (config M start (model_at M start p rs k)) a (config M start (model_at M start p rs (k + 1)))
 
 -- requests were answered one after the other, and left workbench and pouch, as the model says; which tickets lie there depends on no move
 pub record AttendedAll (M : Meaning) (s : State M) (p : Pouch) (rs : List GuidedRequest) (told : List Reply) (t : State M) (q : Pouch) : Type 0 where
@@ -57,7 +57,7 @@ pub record AttendedAll (M : Meaning) (s : State M) (p : Pouch) (rs : List Guided
   pub left : desk_after M s.start (desk s p) rs ≡ desk t q
   pub tickets : tickets_after (tickets_of (desk s p)) rs ≡ tickets_of (desk t q)
   pub same : t.start ≡ s.start
-  pub sound : Sound M t
+  pub sound : Sound M s → Sound M t
 
 -- requests served on a new workbench: each reply is the model's, workbench and pouch hold what the model says, and the law holds after each request
 pub record Ran (M : Meaning) (start : ℕ → M.Config) (reliable : Type 0) (p : Pouch) (rs : List GuidedRequest) (told : List Reply) (t : State M) (q : Pouch) : Type 0 where

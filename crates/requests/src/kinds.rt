@@ -1,10 +1,11 @@
 use std::fmt;
+use transition::faults::Fault;
 use treebank::moves::Move;
 use treebank::rows::Row;
 use workbench_model::answers::Answer;
 
 /// What is asked of a workbench. Tickets lie in a pouch, and a request names one by its place there.
-#[derive(Clone, Copy, Debug)]
+#[derive(Clone, Copy, Debug, PartialEq, Eq)]
 pub enum Request {
     Load { words: usize, epoch: u32 },
     Step(Move),
@@ -16,16 +17,18 @@ pub enum Request {
 }
 
 /// What is asked of a workbench on a guided system.
-#[derive(Clone, Copy)]
+#[derive(Clone, Copy, Debug, PartialEq, Eq)]
 pub enum GuidedRequest<'a> {
     Plain(Request),
     Derive(&'a [Row]),
 }
 
-/// What is said to a request: the workbench's answer, or that it names no ticket, or no room for one, and is no call.
-#[derive(Clone, Copy, Debug)]
+/// What is said to a request: what the call came to, or that the request names no ticket, or no room for one, and is no
+/// call.
+// An enum of its own: the two cases without a call are no failure of one.
+#[derive(Clone, Copy, Debug, PartialEq, Eq)]
 pub enum Reply {
-    Answered(Answer),
+    Answered(Result<Answer, Fault>),
     NoTicket,
     NoRoom,
 }
@@ -50,11 +53,10 @@ impl fmt::Display for GuidedRequest<'_> {
             GuidedRequest::Derive(table) => {
                 f.write_str("derive heads")?;
                 for row in table.iter() {
-                    let head = row.head;
-                    if head == Row::NO_HEAD {
+                    if row.head == Row::NO_HEAD {
                         f.write_str(" none")?;
                     } else {
-                        write!(f, " {head}")?;
+                        write!(f, " {}", row.head)?;
                     }
                 }
                 Ok(())
@@ -66,7 +68,8 @@ impl fmt::Display for GuidedRequest<'_> {
 impl fmt::Display for Reply {
     fn fmt<W: fmt::Write>(&self, f: &mut fmt::Formatter<W>) -> fmt::Result {
         match self {
-            Reply::Answered(answer) => write!(f, "{answer}"),
+            Reply::Answered(Ok(answer)) => write!(f, "{answer}"),
+            Reply::Answered(Err(fault)) => write!(f, "refused {fault}"),
             Reply::NoTicket => f.write_str("no ticket there"),
             Reply::NoRoom => f.write_str("no room for a ticket there"),
         }

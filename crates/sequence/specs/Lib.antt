@@ -1,2 +1,3 @@
 pub mod Pouches
+pub mod Spending
 pub mod Attending

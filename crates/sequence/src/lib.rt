@@ -1,10 +1,11 @@
 //! Serves any list of requests on a workbench, and says what holds after each of them.
 #![tactic(auto)]
 
+pub mod asking;
 mod attending;
-pub mod guided;
-pub mod plain;
+mod guided;
 mod pouches;
+pub mod serving;
 
-pub use guided::{run_guided, serve_guided};
-pub use plain::{run, serve};
+pub use asking::Ask;
+pub use serving::{run, serve};

@@ -7,16 +7,14 @@ use workbench::workbench::Ticket;
 pub(crate) fn is_free(pouch: &[Option<Ticket>], place: usize) -> bool
     ensures { Free pouch.now place result }
 {
-    if place >= pouch.len() {
-        return false;
-    }
-    pouch[place].is_none()
+    pouch.get(place).is_some_and(|slot| slot.is_none())
 }
 
 /// Takes out the ticket that lies at a place, if one does.
 pub(crate) fn take(pouch: &mut [Option<Ticket>], place: usize) -> Option<Ticket>
     ensures { Taken pouch.old place result pouch.new }
 {
+    // By index: of what is written through `get_mut` no proof knows the values afterwards.
     if place >= pouch.len() {
         return None;
     }
@@ -31,6 +29,6 @@ pub(crate) fn put(pouch: &mut [Option<Ticket>], place: usize, ticket: Ticket)
 {
     match pouch[place].replace(ticket) {
         None => {}
-        Some(_other) => unreachable(),
+        Some(_other) => unreachable!(),
     }
 }
