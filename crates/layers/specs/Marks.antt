@@ -1,6 +1,6 @@
 -- The laws of Label-Set.
 use Rattle.std.specs.Prelude.{◌≡◌, ℕ, ◌-◌, Bool, true, false, cond, ◌&&◌, ◌⊎◌, List, Some, None, ◌≢◌, nat_le, slice_index_or, refl}
-use Rattle.std.proofs.Common.{sym, subst, inl, inr, arith}
+use Rattle.std.proofs.Common.{sym, subst, inl, inr}
 use mathlib.Core.List.Memᴰ
 use Rattle.std.proofs.lemmas.Bool.{and_parts, and_from, leb-true, le-leb, cond-true}
 use Rattle.treebank.specs.declared.arcs.Arc.{Arc}
@@ -21,11 +21,11 @@ true_marked marks l ((low, high), yes') = and_from (nat_le 1 l) _ (le-leb 1 l lo
 -- no objection is raised exactly where the test passes
 unobjected : (b : Bool) → cond b None (Some LabelNotInSet) ≡ None → b ≡ true
 unobjected true e = refl
-unobjected false e = absurd (let z : ◌≡◌ {A = ℕ} 0 1 = cc in omega arith)
+unobjected false e = cc
 
 not_foreign : (b : Bool) → cond b None (Some LabelNotInSet) ≢ Some ForeignMove
-not_foreign true e = let z : ◌≡◌ {A = ℕ} 0 1 = cc in omega arith
-not_foreign false e = let z : ◌≡◌ {A = ℕ} 0 1 = cc in omega arith
+not_foreign true e = cc
+not_foreign false e = cc
 
 one_more : (marks : List Bool) (a : Arc) (arcs : List Arc) → ((b : Arc) → b ∈ arcs → Marked marks b.label) → Marked marks a.label → (b : Arc) → (b ≡ a) ⊎ (b ∈ arcs) → Marked marks b.label
 one_more marks a arcs old new b (inl e) = subst (λ (x : Arc). Marked marks x.label) (sym e) new

@@ -83,12 +83,12 @@ module _ (n : ℕ) (arcs : List Arc) (into : ℕ → Option Arc) (forest : Depen
   one_less a fresh all false e = refl
 
 unobjected : (b : Bool) → cond b (Some SecondRootArc) None ≡ None → b ≡ false
-unobjected true e = absurd (let z : ◌≡◌ {A = ℕ} 0 1 = cc in omega arith)
+unobjected true e = cc
 unobjected false e = refl
 
 not_foreign : (b : Bool) → cond b (Some SecondRootArc) None ≢ Some ForeignMove
-not_foreign true e = let z : ◌≡◌ {A = ℕ} 0 1 = cc in omega arith
-not_foreign false e = let z : ◌≡◌ {A = ℕ} 0 1 = cc in omega arith
+not_foreign true e = cc
+not_foreign false e = cc
 
 pub root_lawful : RuleLaws one_root
 root_lawful = record {

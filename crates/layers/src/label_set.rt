@@ -10,6 +10,7 @@ use treebank::refusals::Refusal;
 /// The labels that may be drawn: for each label from 1 to 200 a yes or a no.
 #[derive(Clone, Copy)]
 pub struct LabelSet {
+    // An entry for each label, as the set is handed over; there is none beside them that would count them.
     marks: [bool; 200],
 }
 
@@ -26,7 +27,7 @@ impl LabelSet {
         ensures value { result ≡ is_marked self.now.marks label }
         ensures marked { (result ≡ true) ↔ Marked self.now.marks label }
     {
-        1 <= label && label <= 200 && self.marks[label as usize - 1]
+        (1..=200).contains(&label) && self.marks[label as usize - 1]
     }
 }
 

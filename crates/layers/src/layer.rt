@@ -84,8 +84,7 @@ impl<R: Rule, S: System> System for Layer<R, S> {
     }
 
     fn height(&self) -> u8 {
-        let height = self.below.height();
-        if height < 255 { height + 1 } else { height }
+        self.below.height().saturating_add(1)
     }
 }
 

@@ -15,18 +15,16 @@ pub struct OneRoot;
 fn is_from_root(arc: Option<Arc>) -> bool
     ensures { result ≡ from_root arc }
 {
-    match arc {
-        Some(arc) => arc.head == 0,
-        None => false,
-    }
+    arc.is_some_and(|arc| arc.head == 0)
 }
 
 /// Whether an arc from the root stands.
 fn is_root_taken<S: System>(system: &S) -> bool
     ensures { result ≡ root_taken (S.System.meaning.arc_into (S.System.conf system.now)) (S.System.meaning.words (S.System.conf system.now)) }
 {
-    for word in 0..system.words().get() {
-        if is_from_root(system.arc_into(word + 1)) {
+    // A loop: from a no of `any` over a range, `search` does not find that no word has such an arc.
+    for word in 1..=system.words().get() {
+        if is_from_root(system.arc_into(word)) {
             return true;
         }
     }

@@ -13,6 +13,7 @@ pub trait Rule {
     ghost ruling: { Ruling Self };
 
     /// Why the arc may not be drawn beside those of the system below; none where it may.
+    // An `Option` and no `Result`: an objection is what is asked for, and no failure to answer.
     fn objection<S: System>(&self, below: &S, arc: Arc) -> Option<Refusal>
         ensures { result ≡ against ruling S.System.meaning self.now (S.System.conf below.now) arc };
 

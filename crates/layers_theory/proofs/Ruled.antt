@@ -8,9 +8,6 @@ use Rattle.transition.specs.Meaning.{Verdict}
 use Rattle.transition.specs.Laws.{Foreign}
 use Rattle.layers_theory.specs.Layers.{higher, unless_objected, ruled}
 
-clash : {A : Type 0} → ◌≡◌ {A = ℕ} 0 1 → A
-clash z = let f : ⊥ = omega arith in absurd f
-
 higher_by : (b : Bool) (h : ℕ) → h ≤ cond b (h + 1) h
 higher_by true h = omega arith
 higher_by false h = omega arith
@@ -26,15 +23,15 @@ Unopposed objection (Some a) = objection a ≡ None
 module _ (level : ℕ) (objection : Arc → Option Refusal) where
   -- what is permitted under the rule is permitted below, and the rule has nothing against it
   pub permitted_below : (v : Verdict) (a : Option Arc) → ruled level objection v ≡ Ok a → (v ≡ Ok a) × Unopposed objection a
-  permitted_below (Err f) a e = clash (cc)
+  permitted_below (Err f) a e = cc
   permitted_below (Ok None) None e = (refl, tt)
-  permitted_below (Ok None) (Some a) e = clash (cc)
+  permitted_below (Ok None) (Some a) e = cc
   permitted_below (Ok (Some x)) a e = by (objection x) refl a e
     where
       by : (o : Option Refusal) → objection x ≡ o → (a : Option Arc) → unless_objected level x o ≡ Ok a → (◌≡◌ {A = Verdict} (Ok (Some x)) (Ok a)) × Unopposed objection a
-      by None f None e = clash (cc)
+      by None f None e = cc
       by None f (Some a) e = let s : x ≡ a = cc in (ap (λ (y : Arc). Ok (Some y)) s, ap objection (sym s) ∙ f)
-      by (Some why) f a e = clash (cc)
+      by (Some why) f a e = cc
 
   pub permitted_above : (v : Verdict) (a : Option Arc) → v ≡ Ok a → Unopposed objection a → ruled level objection v ≡ Ok a
   permitted_above v None e u = ap (ruled level objection) e
@@ -43,11 +40,11 @@ module _ (level : ℕ) (objection : Arc → Option Refusal) where
   -- a refusal is that of what stands below, or the rule's at this level
   pub level_of : (v : Verdict) (low : ℕ) → low ≤ level → ((f : Fault) → v ≡ Err f → f.level ≤ low) → (f : Fault) → ruled level objection v ≡ Err f → f.level ≤ level
   level_of (Err g) low l below f e = let s : g ≡ f = cc in omega (arith, below f (ap (λ (x : Fault). Err x) s))
-  level_of (Ok None) low l below f e = clash (cc)
+  level_of (Ok None) low l below f e = cc
   level_of (Ok (Some x)) low l below f e = by (objection x) e
     where
       by : (o : Option Refusal) → unless_objected level x o ≡ Err f → f.level ≤ level
-      by None e = clash (cc)
+      by None e = cc
       by (Some why) e = let s : level ≡ f.level = cc in omega arith
 
   -- no rule calls a move another system's

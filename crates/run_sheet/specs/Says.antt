@@ -50,3 +50,13 @@ move_said t = line_move (said t)
 abbrev pub SaysMove : SheetLine → Result Move Refusal → Type 0
 SaysMove l (Ok m) = Proper m × (of_move m ≡ l)
 SaysMove l (Err e) = (m : Move) → Proper m → of_move m ≢ l
+
+-- what a move is written as: its line, from which a proper move reads back
+pub record LineOf (m : Move) (l : SheetLine) : Type 0 where
+  pub is : l ≡ of_move m
+  pub back : Proper m → to_move l ≡ Ok m
+
+-- what a line is read as: the move that it says, and that only for a proper move's line
+pub record MoveOf (l : SheetLine) (r : Result Move Refusal) : Type 0 where
+  pub is : r ≡ to_move l
+  pub says : SaysMove l r

@@ -1,16 +1,15 @@
 //! A line of a run sheet, read and written, and the move or the heading that it says.
 
 ghost use Rattle.std.specs.Prelude.{◌≡◌, ◌/◌, ◌%◌, ◌<◌, Some, Ok};
-ghost use Rattle.treebank.specs.Moves.{Proper};
 ghost use Rattle.run_sheet.specs.Digits.{value, digit, pair, Valued};
 ghost use Rattle.run_sheet.specs.Texts.{written, said, Stands, Wrote};
-ghost use Rattle.run_sheet.specs.Says.{of_move, to_move, move_said, SaysMove};
+ghost use Rattle.run_sheet.specs.Says.{move_said, LineOf, MoveOf};
 ghost use Rattle.run_sheet.specs.Headings.{headed, words_said, heading_said, counted, SaysWords};
 
 use treebank::{Move, Refusal, WordCount};
 
 /// What a line of a run sheet says: two numbers, each written with two hexadecimal digits.
-#[derive(Clone, Copy, Debug)]
+#[derive(Clone, Copy, Debug, PartialEq, Eq)]
 pub struct SheetLine {
     pub first: u8,
     pub second: u8,
@@ -58,6 +57,7 @@ impl SheetLine {
     pub const BYTES: usize = 5;
 
     /// The line at the beginning of the text, or none where no sheet line stands there.
+    #[tactic(auto, using(crate::proofs::Inverse::stands_if))]
     pub fn read(text: &[u8]) -> Option<SheetLine>
         ensures is { result ≡ said text.now }
         ensures stands { Stands text.now result }
@@ -92,34 +92,6 @@ impl SheetLine {
         Ok(SheetLine::BYTES)
     }
 
-    /// The line of a move: its kind and its label, 0 for a move without an arc.
-    pub fn of_move(m: Move) -> SheetLine
-        ensures is { result ≡ of_move m }
-        ensures back { Proper m → to_move result ≡ Ok m }
-    {
-        SheetLine {
-            first: m.kind(),
-            second: m.label().unwrap_or(0),
-        }
-    }
-
-    /// The move that the line says. A kind that is not listed gives `ForeignMove`; then an arc move without a label of
-    /// 1 to 200, or another move with a label other than 0, gives `BadLabel`.
-    pub fn to_move(self) -> Result<Move, Refusal>
-        ensures is { result ≡ to_move self }
-        ensures says { SaysMove self result }
-    {
-        match (self.first, self.second) {
-            (0, 0) => Ok(Move::Shift),
-            (1, label @ 1..=200) => Ok(Move::LeftArc(label)),
-            (2, label @ 1..=200) => Ok(Move::RightArc(label)),
-            (3, 0) => Ok(Move::Reduce),
-            (4, 0) => Ok(Move::NoArc),
-            (0..=4, _) => Err(Refusal::BadLabel),
-            _ => Err(Refusal::ForeignMove),
-        }
-    }
-
     /// The first line of a sheet: the system's number and the word count.
     pub fn heading(system: u8, words: WordCount) -> SheetLine
         ensures is { result ≡ headed system words }
@@ -145,14 +117,44 @@ impl SheetLine {
     }
 }
 
+/// The line of a move: its kind and its label, 0 for a move without an arc.
+impl From<Move> for SheetLine {
+    ghost from_gives = { LineOf };
+
+    fn from(m: Move) -> SheetLine {
+        SheetLine {
+            first: m.kind(),
+            second: m.label().unwrap_or(0),
+        }
+    }
+}
+
+/// The move that a line says. A kind that is not listed gives `ForeignMove`; then an arc move without a label of 1 to
+/// 200, or another move with a label other than 0, gives `BadLabel`.
+impl TryFrom<SheetLine> for Move {
+    type Error = Refusal;
+
+    ghost try_from_gives = { MoveOf };
+
+    fn try_from(line: SheetLine) -> Result<Move, Refusal> {
+        match (line.first, line.second) {
+            (0, 0) => Ok(Move::Shift),
+            (1, label @ 1..=200) => Ok(Move::LeftArc(label)),
+            (2, label @ 1..=200) => Ok(Move::RightArc(label)),
+            (3, 0) => Ok(Move::Reduce),
+            (4, 0) => Ok(Move::NoArc),
+            (0..=4, _) => Err(Refusal::BadLabel),
+            _ => Err(Refusal::ForeignMove),
+        }
+    }
+}
+
 /// The move that the line at the beginning of the text says; `NotASheetLine` where none stands there.
 pub fn read_move(text: &[u8]) -> Result<Move, Refusal>
     ensures { result ≡ move_said text.now }
 {
-    match SheetLine::read(text) {
-        Some(line) => line.to_move(),
-        None => Err(Refusal::NotASheetLine),
-    }
+    let line = SheetLine::read(text).ok_or(Refusal::NotASheetLine)?;
+    Move::try_from(line)
 }
 
 /// The word count that the first line of a sheet says for this system: `NotASheetLine`, then `TooManyWords`, then
@@ -160,8 +162,6 @@ pub fn read_move(text: &[u8]) -> Result<Move, Refusal>
 pub fn read_heading(text: &[u8], system: u8) -> Result<WordCount, Refusal>
     ensures { counted result ≡ heading_said system text.now }
 {
-    match SheetLine::read(text) {
-        Some(line) => line.words_for(system),
-        None => Err(Refusal::NotASheetLine),
-    }
+    let line = SheetLine::read(text).ok_or(Refusal::NotASheetLine)?;
+    line.words_for(system)
 }

@@ -14,12 +14,7 @@ pub fn play_line<S: System>(system: &mut S, text: &[u8]) -> Result<(Move, Option
     ensures played { Played S.System.meaning S.System.conf system.old text.now result system.new }
     ensures alike { S.System.start system.new ≡ S.System.start system.old }
 {
-    let m = match read_move(text) {
-        Ok(m) => m,
-        Err(why) => return Err(Fault::from(why)),
-    };
-    match make_move(system, m) {
-        Ok(arc) => Ok((m, arc)),
-        Err(fault) => Err(fault),
-    }
+    let m = read_move(text)?;
+    let arc = make_move(system, m)?;
+    Ok((m, arc))
 }

@@ -1,7 +1,6 @@
 ghost use Rattle.std.specs.Prelude.{◌≡◌};
 ghost use Rattle.run_sheet.specs.Texts.{said};
 ghost use Rattle.run_sheet.specs.Says.{move_said};
-ghost use Rattle.workbench_model.specs.States.{Sound};
 ghost use Rattle.workbench.specs.Workbenches.{model_of, state};
 ghost use Rattle.sheets_theory.specs.Replays.{located, faulted, is_new, is_headed};
 ghost use Rattle.sheets_theory.specs.Lines.{LinesTold};
@@ -20,20 +19,14 @@ use workbench::workbench::Workbench;
 fn at_line<T>(line: usize, outcome: Result<T, Fault>) -> Result<T, (usize, Fault)>
     ensures { result ≡ located line outcome }
 {
-    match outcome {
-        Ok(value) => Ok(value),
-        Err(fault) => Err((line, fault)),
-    }
+    outcome.map_err(|fault| (line, fault))
 }
 
 /// The move that the line at the beginning of the text says.
 fn said_move(text: &[u8]) -> Result<Move, Fault>
     ensures { result ≡ faulted (move_said text.now) }
 {
-    match read_move(text) {
-        Ok(m) => Ok(m),
-        Err(why) => Err(Fault::from(why)),
-    }
+    Ok(read_move(text)?)
 }
 
 /// Refuses a workbench with a checkpoint, then one with moves.
@@ -53,13 +46,8 @@ fn expect_new<S: System>(workbench: &Workbench<S>) -> Result<(), Fault>
 fn expect_heading<S: System>(workbench: &Workbench<S>, sheet: &[u8]) -> Result<(), Fault>
     ensures { result ≡ is_headed S.System.meaning.number (model_of workbench.now).words (said sheet.now) }
 {
-    let Some(line) = SheetLine::read(sheet) else {
-        return Err(Fault::from(Refusal::NotASheetLine));
-    };
-    if line.first != workbench.number() {
-        return Err(Fault::from(Refusal::OtherSentence));
-    }
-    if line.second != workbench.words().get() {
+    let line = SheetLine::read(sheet).ok_or(Refusal::NotASheetLine)?;
+    if line != SheetLine::heading(workbench.number(), workbench.words()) {
         return Err(Fault::from(Refusal::OtherSentence));
     }
     Ok(())
@@ -67,23 +55,18 @@ fn expect_heading<S: System>(workbench: &Workbench<S>, sheet: &[u8]) -> Result<(
 
 /// Makes the moves of the lines behind the first, and answers how many stand.
 fn replay_lines<S: System>(workbench: &mut Workbench<S>, sheet: &[u8]) -> Result<usize, SheetFault>
-    ensures { Sound S.System.meaning (state S.System.meaning S.System.conf S.System.start workbench.old)
-        → LinesTold S.System.meaning (state S.System.meaning S.System.conf S.System.start workbench.old) sheet.now result
-        (state S.System.meaning S.System.conf S.System.start workbench.new) }
+    ensures { LinesTold (state workbench.old) sheet.now result (state workbench.new) }
 {
-    let mut place = SheetLine::BYTES;
-    while place < sheet.len() {
-        let line = place / SheetLine::BYTES + 1;
-        let m = at_line(line, said_move(&sheet[place..]))?;
-        at_line(line, workbench.step(m))?;
-        place += SheetLine::BYTES;
+    for (i, text) in sheet.chunks(SheetLine::BYTES).enumerate().skip(1) {
+        let m = at_line(i + 1, said_move(text))?;
+        at_line(i + 1, workbench.step(m))?;
     }
     Ok(workbench.move_count())
 }
 
 /// Loads the sentence again, with the same words under the same epoch.
 fn reload<S: System>(workbench: &mut Workbench<S>)
-    ensures { Reloaded S.System.meaning S.System.conf S.System.start workbench.old workbench.new }
+    ensures { Reloaded workbench.old workbench.new }
 {
     let words = workbench.words().get() as usize;
     let epoch = workbench.epoch();
@@ -98,17 +81,13 @@ fn reload<S: System>(workbench: &mut Workbench<S>)
 ///
 /// An accepted sheet says exactly the moves that it adds: writing them gives the same bytes.
 pub fn replay<S: System>(workbench: &mut Workbench<S>, sheet: &[u8]) -> Result<usize, SheetFault>
-    ensures { Sound S.System.meaning (state S.System.meaning S.System.conf S.System.start workbench.old)
-        → ReplayTold S.System.meaning (state S.System.meaning S.System.conf S.System.start workbench.old) sheet.now result
-        (state S.System.meaning S.System.conf S.System.start workbench.new) }
+    ensures { ReplayTold (state workbench.old) sheet.now result (state workbench.new) }
 {
     at_line(0, expect_new(workbench))?;
     at_line(1, expect_heading(workbench, sheet))?;
-    match replay_lines(workbench, sheet) {
-        Ok(moves) => Ok(moves),
-        Err(fault) => {
-            reload(workbench);
-            Err(fault)
-        }
+    let outcome = replay_lines(workbench, sheet);
+    if outcome.is_err() {
+        reload(workbench);
     }
+    outcome
 }

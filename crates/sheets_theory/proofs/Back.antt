@@ -1,8 +1,11 @@
 -- A written sheet reads back.
 use Rattle.std.proofs.Common.{◌≡◌, ℕ, ◌+◌, ◌≤◌, Bool, cond, eqb, List, [], ◌∷◌, ◌++◌, length, None, Ok, Err, Option, Result, sym, refl, ap, ◌∙◌, subst, append_assoc, append-nil, arith}
+use Rattle.std.proofs.Math.Logic.{∥∥₁_elim}
+use Rattle.std.specs.Coded.{Coded, Coded-set, codes}
 use Rattle.std.proofs.lemmas.Bool.{eq-eqb, and_from}
 use Rattle.treebank.specs.declared.moves.Move.{Move}
 use Rattle.treebank.specs.declared.arcs.Arc.{Arc}
+use Rattle.treebank.specs.declared.rows.Row.{Row}
 use Rattle.treebank.specs.declared.refusals.Refusal.{Refusal}
 use Rattle.treebank.specs.declared.refusals.Refusal.TheVariants.{OtherSentence}
 use Rattle.treebank.specs.Moves.{Proper}
@@ -86,14 +89,19 @@ module _ {M : Meaning} {start : ℕ → M.Config} (laws : Laws M start) where
         ∙ reads h.run n 2 new_lawful same_start
         ∙ ap (λ (xs : List Move). Ok (with_moves n (xs ++ b.moves))) new.none
 
-pub reads_back : {M : Meaning} (s : State M) → Laws M s.start → Sound M s → ReadsBack M s (sheet_text M.number s.model.words s.model.moves)
-reads_back {M} s laws sound start n alike new =
-    let back : replay_model M s.start n (sheet_text M.number s.model.words s.model.moves) ≡ Ok (with_moves n s.model.moves) =
-    read_back laws s.model n (sound_lawful s sound) new in
-    let same : config M start (with_moves n s.model.moves) ≡ s.at =
+replayed_code : Coded (Result Model SheetFault)
+replayed_code = hlevel codes
+
+rows_code : Coded (List Row)
+rows_code = hlevel codes
+
+pub reads_back : {M : Meaning} (s : State M) → Laws M s.start → ∥ Sound M s ∥₁ → ReadsBack s (sheet_text M.number s.model.words s.model.moves)
+reads_back {M} s laws merely start n alike new =
+    let text : List ℕ = sheet_text M.number s.model.words s.model.moves in
+    let same : Sound M s → config M start (with_moves n s.model.moves) ≡ s.at = λ sound.
     ap (λ (u : ℕ → M.Config). after M (u n.words) s.model.moves) alike ∙ ap (λ (k : ℕ). after M (s.start k) s.model.moves) new.words ∙ sym (sound_at s sound) in
     record {
-      moves = ap (λ (u : ℕ → M.Config). replay_model M u n (sheet_text M.number s.model.words s.model.moves)) alike ∙ back;
+      moves = ap (λ (u : ℕ → M.Config). replay_model M u n text) alike ∙ ∥∥₁_elim merely (Coded-set replayed_code _ _) (λ sound. read_back laws s.model n (sound_lawful s sound) new);
       configuration = same;
-      rows = ap (λ (c : M.Config). config_rows M c n.words) same ∙ ap (config_rows M s.at) new.words;
+      rows = ∥∥₁_elim merely (Coded-set rows_code _ _) (λ sound. ap (λ (c : M.Config). config_rows M c n.words) (same sound) ∙ ap (config_rows M s.at) new.words);
     }

@@ -14,7 +14,6 @@ use Rattle.run_sheet.proofs.Inverse.{said_written, stands_if}
 use Rattle.workbench_model.specs.Models.{Model}
 use Rattle.workbench_model.specs.Models.Call.{step}
 use Rattle.workbench_model.specs.Serving.{refusal, change}
-use Rattle.workbench_model.proofs.Tested.{no_way}
 use Rattle.sheets_theory.specs.Sheets.{moves_text}
 use Rattle.sheets_theory.specs.Replays.{for_move, unless_refused, replayed}
 
@@ -24,15 +23,15 @@ drawn l x m e = at (leb 1 l) (leb l 200) e
   where
     at : (s t : Bool) → cond s (cond t (Ok x) (Err BadLabel)) (Err BadLabel) ≡ Ok m → x ≡ m
     at true true e = cc
-    at true false e = no_way (cc)
-    at false t e = no_way (cc)
+    at true false e = cc
+    at false t e = cc
 
 bared : (l : ℕ) (x m : Move) → bare x l ≡ Ok m → (l ≡ 0) × (x ≡ m)
 bared l x m e = at (eqb l 0) refl e
   where
     at : (t : Bool) → eqb l 0 ≡ t → cond t (Ok x) (Err BadLabel) ≡ Ok m → (l ≡ 0) × (x ≡ m)
     at true f e = (eqb-true l 0 f, cc)
-    at false f e = no_way (cc)
+    at false f e = cc
 
 abbrev line : ℕ → ℕ → SheetLine
 line k l = record { first = k; second = l }
@@ -56,14 +55,14 @@ listed_line k l m e = at (eqb k 0) (eqb k 1) (eqb k 2) (eqb k 3) (eqb k 4) refl 
     at false false true d f p q r s t e = drawing_line k l 2 (RightArc l) m (eqb-true k 2 r) refl e
     at false false false true f p q r s t e = bare_line k l 3 Reduce m (eqb-true k 3 s) refl e
     at false false false false true p q r s t e = bare_line k l 4 NoArc m (eqb-true k 4 t) refl e
-    at false false false false false p q r s t e = no_way (cc)
+    at false false false false false p q r s t e = cc
 
 -- a text whose first line says a move begins with that move's line
 pub said_move : (text : List ℕ) (m : Move) → move_said text ≡ Ok m → text ≡ written (of_move m) ++ drop 5 text
 said_move text m e = at (said text) refl e
   where
     at : (o : Option SheetLine) → said text ≡ o → line_move o ≡ Ok m → text ≡ written (of_move m) ++ drop 5 text
-    at None s e = no_way (cc)
+    at None s e = cc
     at (Some l) s e =
         let b : Begins text l = stands_if text (Some l) (sym s) in
         let same : of_move m ≡ l = listed_line l.first l.second m e in

@@ -1,20 +1,18 @@
 -- A sheet written line by line.
-use Rattle.std.proofs.Common.{◌≡◌, ℕ, ◌+◌, ◌<◌, List, [], ◌∷◌, ◌++◌, length, get_or, take, drop, Some, None, Ok, sym, refl, ap, ◌∙◌, subst, ap₂, inl, inr, append_assoc, arith}
+use Rattle.std.proofs.Common.{◌≡◌, ℕ, ◌+◌, ◌<◌, List, [], ◌∷◌, ◌++◌, length, get_or, take, drop, Some, Ok, sym, refl, ap, ◌∙◌, subst, ap₂, inl, inr, append_assoc, suc, add-one, drop-cons, arith}
 use Rattle.std.specs.List.{slice_get}
-use Rattle.std.proofs.lemmas.List.{length-take-le, take_at, take_all, take_more}
+use Rattle.std.proofs.lemmas.List.{length-drop, length-take-le, take_at, take_all, take_more}
 use Rattle.std.proofs.lemmas.Option.{slice_get-get_or, slice_get_past}
 use Rattle.std.proofs.lemmas.Slice.{drop-append-drop}
 use Rattle.std.proofs.lemmas.Bool.{cases_lt}
 use Rattle.treebank.specs.declared.moves.Move.{Move}
-use Rattle.treebank.specs.declared.moves.Move.TheVariants.{Shift}
 use Rattle.transition.specs.Meaning.{Meaning}
 use Rattle.transition.specs.Laws.{Laws}
 use Rattle.run_sheet.specs.declared.lines.SheetLine.{SheetLine}
 use Rattle.run_sheet.specs.Texts.{written}
 use Rattle.run_sheet.specs.Says.{of_move}
 use Rattle.workbench_model.specs.Models.{Model}
-use Rattle.workbench_model.specs.States.{State}
-use Rattle.workbench_model.proofs.Tested.{no_way}
+use Rattle.workbench_model.specs.States.{State, Sound}
 use Rattle.sheets_theory.specs.Sheets.{heading, sheet_text, sheet_bytes, WroteSheet}
 use Rattle.sheets_theory.specs.RoundTrips.{ReadsBack, WroteBack}
 use Rattle.sheets_theory.proofs.Lined.{moves_length, moves_join}
@@ -24,12 +22,17 @@ nth_more : (ms : List Move) (i : ℕ) (m : Move) → slice_get ms i ≡ Some m �
 nth_more ms i m e =
     elim (cases_lt i (length ms)) [
       | inl h ↦ (let k : get_or ms i m ≡ m = cc (slice_get-get_or ms i m h) in take_more ms i m h ∙ ap (λ (j : Move). take i ms ++ (j ∷ [])) k)
-      | inr h ↦ no_way (cc (slice_get_past ms i h))
+      | inr h ↦ cc (slice_get_past ms i h)
     ]
 
--- there is a move at each place before the last
-pub nth_there : {A : Type 0} (ms : List Move) (i : ℕ) → i < length ms → slice_get ms i ≡ None → A
-nth_there ms i h e = no_way (cc (slice_get-get_or ms i Shift h))
+-- the moves that are left from a place on: the move there, and those behind it
+pub left_more : (ms : List Move) (k : ℕ) (m : Move) (rest : List Move) → drop k ms ≡ m ∷ rest → (slice_get ms k ≡ Some m) × (k < length ms) × (rest ≡ drop (k + 1) ms)
+left_more ms k m rest e =
+    let inside : k < length ms = omega (arith, ap length e, length-drop k ms) in
+    let there : drop k ms ≡ get_or ms k m ∷ drop (suc k) ms = drop-cons ms k m inside in
+    let first : get_or ms k m ≡ m = cc in
+    let left : rest ≡ drop (suc k) ms = cc in
+    (slice_get-get_or ms k m inside ∙ ap (λ (x : Move). Some x) first, inside, rw add-one left)
 
 pub sheet_length : (number words : ℕ) (ms : List Move) → length (sheet_text number words ms) ≡ sheet_bytes (length ms)
 sheet_length number words ms = omega (arith, moves_length ms)
@@ -58,11 +61,11 @@ module _ (number : ℕ) (b : Model) (before : List ℕ) where
   so_far_done i out e o = o ∙ ap (λ (ms : List Move). sheet_text number b.words ms ++ drop (sheet_bytes i) before) (take_all i b.moves (omega arith))
 
 -- what was written reads back
-pub wrote_back : {M : Meaning} (s : State M) (before : List ℕ) (k : ℕ) (after : List ℕ) → Laws M s.start → WroteSheet M.number s.model before (Ok k) after → WroteBack M s (Ok k) after
-wrote_back {M} s before k after laws (room, count, e) sound =
+pub wrote_back : {M : Meaning} (s : State M) (before : List ℕ) (k : ℕ) (after : List ℕ) → Laws M s.start → ∥ Sound M s ∥₁ → WroteSheet M.number s.model before (Ok k) after → WroteBack s (Ok k) after
+wrote_back {M} s before k after laws sound (room, count, e) =
     let text : List ℕ = sheet_text M.number s.model.words s.model.moves in
     let front : take k after ≡ text = ap (take k) e ∙ take_at text (drop k before) k (sheet_length M.number s.model.words s.model.moves ∙ sym count) in
-    subst (ReadsBack M s) (sym front) (reads_back s laws sound)
+    subst (ReadsBack s) (sym front) (reads_back s laws sound)
 
 -- the heading was written over the first bytes, then the lines of the moves
 pub lines_done : (number : ℕ) (b : Model) (before first out : List ℕ) (l : SheetLine) (i : ℕ) → first ≡ take 0 before ++ (written l ++ drop (0 + 5) before) → i ≡ length b.moves →

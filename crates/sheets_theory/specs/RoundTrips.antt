@@ -23,17 +23,17 @@ pub record NewlyLoaded (n : Model) (count : ℕ) : Type 0 where
   pub none : n.moves ≡ []
   pub free : n.checkpoint ≡ None
 
--- replayed on n, the text gives the moves and the rows of s
+-- replayed on n, the text gives the moves and the rows of s, and the configuration to which those moves led
 pub record Gives (M : Meaning) (s : State M) (text : List ℕ) (start : ℕ → M.Config) (n : Model) : Type 0 where
   pub moves : replay_model M start n text ≡ Ok (with_moves n s.model.moves)
-  pub configuration : config M start (with_moves n s.model.moves) ≡ s.at
+  pub configuration : Sound M s → config M start (with_moves n s.model.moves) ≡ s.at
   pub rows : config_rows M (config M start (with_moves n s.model.moves)) n.words ≡ config_rows M s.at s.model.words
 
 -- and so on every newly loaded model of as many words that starts alike
-abbrev pub ReadsBack : (M : Meaning) → State M → List ℕ → Type 0
-ReadsBack M s text = (start : ℕ → M.Config) (n : Model) → start ≡ s.start → NewlyLoaded n s.model.words → Gives M s text start n
+abbrev pub ReadsBack : {M : Meaning} → State M → List ℕ → Type 0
+ReadsBack {M} s text = (start : ℕ → M.Config) (n : Model) → start ≡ s.start → NewlyLoaded n s.model.words → Gives M s text start n
 
--- what a sound workbench wrote reads back
-abbrev pub WroteBack : (M : Meaning) → State M → Result ℕ Fault → List ℕ → Type 0
-WroteBack M s (Ok k) after = Sound M s → ReadsBack M s (take k after)
-WroteBack M s (Err why) after = Unit {0}
+-- what was written reads back
+abbrev pub WroteBack : {M : Meaning} → State M → Result ℕ Fault → List ℕ → Type 0
+WroteBack s (Ok k) after = ReadsBack s (take k after)
+WroteBack s (Err why) after = Unit {0}

@@ -1,10 +1,11 @@
 ghost use Rattle.std.specs.Prelude.{◌≡◌};
 
-use std::fmt;
+use thiserror::Error;
 use transition::faults::Fault;
 
 /// Why a sheet is refused: its line, counted from 1, or 0 for the workbench itself; and the fault found there.
-#[derive(Clone, Copy, Debug)]
+#[derive(Clone, Copy, Debug, PartialEq, Eq, Error)]
+#[error("line {line}: {fault}")]
 pub struct SheetFault {
     pub line: usize,
     pub fault: Fault,
@@ -15,17 +16,7 @@ impl From<(usize, Fault)> for SheetFault {
     ghost from_gives = { λ at f. f ≡ record { line = at.0; fault = at.1 } };
 
     fn from(at: (usize, Fault)) -> SheetFault {
-        SheetFault {
-            line: at.0,
-            fault: at.1,
-        }
-    }
-}
-
-impl fmt::Display for SheetFault {
-    fn fmt<W: fmt::Write>(&self, f: &mut fmt::Formatter<W>) -> fmt::Result {
-        let line = self.line;
-        let fault = self.fault;
-        write!(f, "line {line}: {fault}")
+        let (line, fault) = at;
+        SheetFault { line, fault }
     }
 }

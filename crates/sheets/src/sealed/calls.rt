@@ -1,12 +1,15 @@
 ghost use Rattle.std.specs.Prelude.{◌≡◌, length};
 ghost use Rattle.std.specs.List.{slice_get};
+ghost use Rattle.std.specs.Iterator.{YieldsFirst};
+ghost use Rattle.std.specs.Iterator.Runs.{YieldsInOrder};
+ghost use Rattle.treebank.specs.declared.moves.Move.{Move};
 ghost use Rattle.workbench_model.specs.declared.answers.Answer.TheVariants.{Committed};
 ghost use Rattle.workbench_model.specs.Models.Call.{commit as commit_call};
-ghost use Rattle.workbench_model.specs.States.{Sound};
-ghost use Rattle.workbench.specs.Workbenches.{model_of, state, Serves, answer_beside, HandedBack};
+ghost use Rattle.workbench.specs.Workbenches.{model_of, Serves, answer_beside, HandedBack};
 ghost use Rattle.workbench.specs.Writing.{WroteRows, RowsSay};
 
 use super::Sealed;
+use history::Moves;
 use transition::faults::Fault;
 use transition::system::System;
 use treebank::moves::Move;
@@ -21,6 +24,7 @@ pub fn seal<S: System>(workbench: Workbench<S>) -> Sealed<S>
     Sealed { workbench }
 }
 
+// Its questions are passed on by a method each, and the workbench is not lent: a sealed sentence answers these alone.
 impl<S: System> Sealed<S> {
     /// How many words the sentence has.
     pub fn words(&self) -> WordCount
@@ -50,6 +54,14 @@ impl<S: System> Sealed<S> {
         self.workbench.move_at(place)
     }
 
+    /// The moves standing, oldest first.
+    pub fn moves(&self) -> Moves<'_>
+        ensures moves { result ≡ (model_of self.now.workbench).moves }
+        ensures runs { YieldsInOrder (YieldsFirst {A = Move} (λ rest. rest)) (λ rest. rest) }
+    {
+        self.workbench.moves()
+    }
+
     /// Whether the sentence is finished.
     pub fn finished(&self) -> bool
         ensures { result ≡ S.System.meaning.finished (S.System.conf self.now.workbench.system) }
@@ -60,9 +72,8 @@ impl<S: System> Sealed<S> {
     /// Writes the row of each word into the lent rows and answers how many; later rows stay. `BufferTooSmall`, with
     /// nothing written, where fewer rows are lent than there are words.
     pub fn write_rows(&self, rows: &mut [Row]) -> Result<usize, Fault>
-        ensures wrote { WroteRows S.System.meaning (S.System.conf self.now.workbench.system) self.now.workbench.words.count rows.old result rows.new }
-        ensures table { Sound S.System.meaning (state S.System.meaning S.System.conf S.System.start self.now.workbench)
-            → RowsSay (S.System.meaning.arcs (S.System.conf self.now.workbench.system)) self.now.workbench.words.count result rows.new }
+        ensures wrote { WroteRows self.now.workbench rows.old result rows.new }
+        ensures table { RowsSay self.now.workbench result rows.new }
     {
         self.workbench.write_rows(rows)
     }
@@ -70,7 +81,7 @@ impl<S: System> Sealed<S> {
     /// Spends the ticket of a checkpoint that stood at sealing: `NoSuchCheckpoint`, with the ticket, where none stands or
     /// the ticket has another epoch.
     pub fn commit(&mut self, ticket: Ticket) -> Result<(), (Ticket, Fault)>
-        ensures served { Serves S.System.meaning S.System.conf S.System.start self.old.workbench (commit_call ticket.epoch) (answer_beside (λ _. Committed) result) self.new.workbench }
+        ensures served { Serves self.old.workbench (commit_call ticket.epoch) (answer_beside (λ _. Committed) result) self.new.workbench }
         ensures back { HandedBack ticket result }
     {
         self.workbench.commit(ticket)

@@ -30,10 +30,8 @@ impl<S: System> Sealed<S> {
             0,
             SheetLine::heading(self.workbench.number(), self.workbench.words()),
         );
-        for i in 0..self.workbench.move_count() {
-            if let Some(m) = self.workbench.move_at(i) {
-                put_line(out, SheetLine::BYTES * (i + 1), SheetLine::of_move(m));
-            }
+        for (i, m) in self.workbench.moves().enumerate() {
+            put_line(out, SheetLine::BYTES * (i + 1), SheetLine::from(m));
         }
     }
 
@@ -44,7 +42,7 @@ impl<S: System> Sealed<S> {
     /// it is accepted and gives the same moves and the same rows.
     pub fn write_sheet(&self, out: &mut [u8]) -> Result<usize, Fault>
         ensures wrote { WroteSheet S.System.meaning.number (model_of self.now.workbench) out.old result out.new }
-        ensures back { WroteBack S.System.meaning (state S.System.meaning S.System.conf S.System.start self.now.workbench) result out.new }
+        ensures back { WroteBack (state self.now.workbench) result out.new }
     {
         let moves = self.workbench.move_count();
         if out.len() / SheetLine::BYTES <= moves {

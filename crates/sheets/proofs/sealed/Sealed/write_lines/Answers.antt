@@ -1,26 +1,36 @@
-use Rattle.std.proofs.Common.{◌≡◌, ◌+◌, ◌<◌, ◌++◌, length, take, drop, sym, ap, ◌∙◌, arith}
+use Rattle.std.proofs.Common.{◌≡◌, ℕ, ◌+◌, ◌*◌, ◌++◌, length, take, drop, sym, ap, ap₂, ◌∙◌, subst, rules, arith}
+use Rattle.std.proofs.lemmas.List.{length-drop}
+use Rattle.std.specs.Iterator.Adapters.{enumerate_source, enumerate_count}
 use Rattle.run_sheet.specs.declared.lines.SheetLine.{SheetLine}
 use Rattle.run_sheet.specs.Texts.{written}
 use Rattle.workbench.specs.Workbenches.{model_of}
-use Rattle.sheets_theory.specs.Sheets.{sheet_bytes}
-use Rattle.sheets_theory.proofs.Written.{nth_there, so_far_more, lines_done}
-use Rattle.sheets.proofs.sealed.Sealed.write_lines.Goals.{in-Some, in_default}
+use Rattle.sheets_theory.proofs.Written.{SoFar, left_more, so_far_more, lines_done}
 use Rattle.sheets.proofs.sealed.Sealed.write_lines.Goals as goal
 
 pub loop-i-preserved : goal.loop-i-preserved
 loop-i-preserved g c =
+    let number = g.S.System.meaning.number in
     let b = model_of c.args.self.now.workbench in
-    let i = c.loop-i.i in
+    let first = c.put_line.new.out in
     let out = c.loop-i.out in
-    let inside : c.loop-i.i < length b.moves = omega (arith, c.loop-i-test.true, c.move_count-i-end.ensures) in
-    elim c.match-move_at.branch [
-      | in-Some w ↦ so_far_more g.S.System.meaning.number b c.put_line.new.out i w.in-Some.m out c.match-move_at.out (sym c.move_at.ensures ∙ w.in-Some.is) inside
-          (w.out-is ∙ w.put_line-in-Some.ensures ∙ ap (λ (l : SheetLine). take (sheet_bytes i) out ++ (written l ++ drop (sheet_bytes i + 5) out)) w.of_move.ensures.is) c.loop-i.invariant
-      | in_default w ↦ nth_there b.moves i inside (sym c.move_at.ensures ∙ w.in_default.is)
-    ]
+    let m = c.in-Some.m in
+    let k = enumerate_count c.loop-i.i-iterator in
+    let (e, is, next, fits) = c.in-Some.ensures.steps in
+    let (at, inside, left) = left_more b.moves k m (enumerate_source c.next.new.self) (sym c.loop-i.invariant.left ∙ e) in
+    let line = c.put_line-in-loop-i.ensures ∙ ap₂ (λ (n : ℕ) (l : SheetLine). take (5 * (n + 1)) out ++ (written l ++ drop (5 * (n + 1) + 5) out)) is c.from.ensures.is in
+    record {
+      can = search rules;
+      ends = tt;
+      left = left ∙ ap (λ (n : ℕ). drop n b.moves) (sym next);
+      within = omega arith;
+      written = subst (λ (n : ℕ). SoFar number b first n c.put_line-in-loop-i.new.out) (sym next)
+          (so_far_more number b first k m out c.put_line-in-loop-i.new.out at inside line c.loop-i.invariant.written);
+    }
 
 pub returns : goal.returns
 returns g c =
     let b = model_of c.args.self.now.workbench in
-    let all : c.loop-i.i ≡ length b.moves = omega (arith, c.loop-i-test.false, c.loop-i.auto.i-end, c.move_count-i-end.ensures) in
-    lines_done g.S.System.meaning.number b c.args.out.now c.put_line.new.out c.loop-i.out c.heading.result c.loop-i.i c.put_line.ensures all c.loop-i.invariant
+    let k = enumerate_count c.loop-i.i-iterator in
+    let ((none, gone), same) = c.in-None.ensures.steps in
+    let all : k ≡ length b.moves = omega (arith, ap length none, ap length c.loop-i.invariant.left, length-drop k b.moves) in
+    lines_done g.S.System.meaning.number b c.args.out.now c.put_line.new.out c.loop-i.out c.heading.result k c.put_line.ensures all c.loop-i.invariant.written
