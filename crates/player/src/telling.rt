@@ -1,4 +1,4 @@
-use crate::columns::Told;
+use crate::columns::{Told, side_by_side};
 use arc_eager::system::ArcEager;
 use arc_standard::system::ArcStandard;
 use list_based::system::ListBased;
@@ -17,45 +17,68 @@ use treebank::rows::Row;
 use treebank::words::WordCount;
 use workbench::workbench::Workbench;
 
+/// The systems that a run sheet may be played on.
+enum Known {
+    ArcStandard,
+    ArcEager,
+    ListBased,
+}
+
+/// A system by its number on a sheet's first line.
+impl TryFrom<u8> for Known {
+    type Error = Refusal;
+
+    fn try_from(number: u8) -> Result<Known, Refusal> {
+        match number {
+            1 => Ok(Known::ArcStandard),
+            2 => Ok(Known::ArcEager),
+            3 => Ok(Known::ListBased),
+            _ => Err(Refusal::OtherSentence),
+        }
+    }
+}
+
 /// The account of a run sheet, on the system that its first line names: every step with its move, the configuration
 /// and the new arc, then the head table, whether the sentence is finished, and the number of moves. It ends at the first
 /// line that is refused.
 pub(crate) fn account(heap: Global, sheet: &[u8]) -> Result<String, AllocError> {
-    let Some(line) = SheetLine::read(sheet) else {
-        return refusal(heap, 1, Refusal::NotASheetLine);
-    };
-    let words = match line.words_for(line.first) {
-        Ok(words) => words,
-        Err(why) => return refusal(heap, 1, why),
-    };
-    match line.first {
-        1 => tell(
+    match first_line(sheet) {
+        Ok((Known::ArcStandard, words)) => tell(
             heap,
             ArcStandard::new(words),
             ArcStandard::new(words),
             sheet,
         ),
-        2 => tell(heap, ArcEager::new(words), ArcEager::new(words), sheet),
-        3 => tell(heap, ListBased::new(words), ListBased::new(words), sheet),
-        _ => refusal(heap, 1, Refusal::OtherSentence),
+        Ok((Known::ArcEager, words)) => {
+            tell(heap, ArcEager::new(words), ArcEager::new(words), sheet)
+        }
+        Ok((Known::ListBased, words)) => {
+            tell(heap, ListBased::new(words), ListBased::new(words), sheet)
+        }
+        Err(why) => refusal(heap, 1, why),
     }
+}
+
+/// The system and the word count that the first line names.
+fn first_line(sheet: &[u8]) -> Result<(Known, WordCount), Refusal> {
+    let line = SheetLine::read(sheet).ok_or(Refusal::NotASheetLine)?;
+    let words = line.words_for(line.first)?;
+    let system = Known::try_from(line.first)?;
+    Ok((system, words))
 }
 
 /// Replays the sheet on a workbench over the one system, and shows each step on the other.
 fn tell<S: Told + Drop>(
     heap: Global,
     system: S,
-    shown: S,
+    mut shown: S,
     sheet: &[u8],
 ) -> Result<String, AllocError> {
-    let mut shown = shown;
     let mut out = opening(heap, &shown)?;
     let (sealed, refused) = play(system, shown.words(), sheet);
-    for place in 0..sealed.move_count() {
-        if let Some(m) = sealed.move_at(place) {
-            if let Ok(arc) = make_move(&mut shown, m) {
-                out.push_str(step(heap, place + 1, m, arc, &shown)?.as_str())?;
-            }
+    for (place, m) in sealed.moves().enumerate() {
+        if let Ok(arc) = make_move(&mut shown, m) {
+            out.push_str(step(heap, place + 1, m, arc, &shown)?.as_str())?;
         }
     }
     if let Some(SheetFault { line, fault }) = refused {
@@ -70,26 +93,23 @@ fn tell<S: Told + Drop>(
 fn play<S: System>(system: S, words: WordCount, sheet: &[u8]) -> (Sealed<S>, Option<SheetFault>) {
     let mut workbench = Workbench::new(system);
     let _ = workbench.load(words.get() as usize, 0);
-    match replay(&mut workbench, sheet) {
-        Ok(_) => (seal(workbench), None),
-        Err(fault) => {
-            let behind = fault
-                .line
-                .saturating_sub(1)
-                .saturating_mul(SheetLine::BYTES)
-                .min(sheet.len());
-            let _ = replay(&mut workbench, &sheet[0..behind]);
-            (seal(workbench), Some(fault))
-        }
+    let refused = replay(&mut workbench, sheet).err();
+    if let Some(SheetFault { line, .. }) = refused {
+        let accepted = line
+            .saturating_sub(1)
+            .saturating_mul(SheetLine::BYTES)
+            .min(sheet.len());
+        let _ = replay(&mut workbench, &sheet[..accepted]);
     }
+    (seal(workbench), refused)
 }
 
 /// The system, the word count, the names of the columns and the configuration at the beginning.
 fn opening<S: Told>(heap: Global, system: &S) -> Result<String, AllocError> {
-    let name = system.name();
+    let name = S::NAME;
     let words = system.words().get();
-    let headings = system.headings(heap)?;
-    let columns = system.columns(heap, "")?;
+    let headings = side_by_side(heap, S::HEADINGS)?;
+    let columns = side_by_side(heap, system.columns(heap)?.as_slice())?;
     format!(in heap;
         "{name}, words: {words}\n\nstep  {:<13}  {headings}\n   0  {:<13}  {columns}\n",
         "move", "begin"
@@ -104,12 +124,12 @@ fn step<S: Told>(
     arc: Option<Arc>,
     system: &S,
 ) -> Result<String, AllocError> {
-    let name = format!(in heap; "{m}")?;
-    let drawn = match arc {
-        Some(arc) => format!(in heap; "{arc}")?,
-        None => String::new(heap),
-    };
-    let columns = system.columns(heap, drawn.as_str())?;
+    let name = m.to_string(heap)?;
+    let mut cells = system.columns(heap)?;
+    if let Some(arc) = arc {
+        cells.push(arc.to_string(heap)?)?;
+    }
+    let columns = side_by_side(heap, cells.as_slice())?;
     format!(in heap; "{number:>4}  {name:<13}  {columns}\n")
 }
 
@@ -120,20 +140,17 @@ fn refusal(heap: Global, line: usize, why: Refusal) -> Result<String, AllocError
 
 /// The head and the label of each word, with `-` for no head.
 fn head_table<S: System>(heap: Global, sealed: &Sealed<S>) -> Result<String, AllocError> {
-    let mut rows = [Row {
-        head: Row::NO_HEAD,
-        label: 0,
-    }; 100];
-    let words = sealed.write_rows(&mut rows).unwrap_or(0);
+    let words = sealed.words().get();
+    let mut rows = vec![in heap; Row::from(None); words as usize]?;
+    let _ = sealed.write_rows(&mut rows);
     let mut out = format!(in heap; "\n{:>4}  {:>4}  {:>5}\n", "word", "head", "label")?;
-    for (i, Row { head, label }) in rows.iter().take(words).enumerate() {
-        let word = i + 1;
-        let line = if *head == Row::NO_HEAD {
-            format!(in heap; "{word:>4}  {:>4}  {:>5}\n", "-", "-")?
-        } else {
-            format!(in heap; "{word:>4}  {head:>4}  {label:>5}\n")?
-        };
-        out.push_str(line.as_str())?;
+    for (word, row) in (1..=words).zip(rows.iter()) {
+        match row.arc(word) {
+            Some(Arc { head, label, .. }) => {
+                write!(out, "{word:>4}  {head:>4}  {label:>5}\n")?;
+            }
+            None => write!(out, "{word:>4}  {:>4}  {:>5}\n", "-", "-")?,
+        }
     }
     Ok(out)
 }

@@ -6,24 +6,18 @@ use layers::label_set::LabelSet;
 use layers::layer::Layer;
 use layers::one_root::OneRoot;
 use list_based::system::ListBased;
+use std::array;
 use std::process::Abort;
 use std::test::Fail;
 use transition::making::make_move;
 use transition::system::System;
 use treebank::moves::Move;
-use treebank::refusals::Refusal;
 use treebank::rows::Row;
 use treebank::words::WordCount;
 
 /// All labels but one.
 pub(crate) fn all_but(label: usize) -> LabelSet {
-    let mut marks = [true; 200];
-    for (i, mark) in marks.iter_mut().enumerate() {
-        if i + 1 == label {
-            *mark = false;
-        }
-    }
-    LabelSet::new(marks)
+    LabelSet::new(array::from_fn(|i| i + 1 != label))
 }
 
 /// Three layers over a system: no label 2 at level 1, one arc from the root at level 2, no label 3 at level 3.
@@ -34,12 +28,10 @@ fn layered<S: System>(system: S) -> Layer<LabelSet, Layer<OneRoot, Layer<LabelSe
     )
 }
 
-/// The number and the level of a refusal; 0 and 0 for a move that was made.
-fn refusal<S: System>(system: &mut S, m: Move) -> (u8, u8) {
-    match make_move(system, m) {
-        Ok(_) => (0, 0),
-        Err(fault) => (fault.refusal.number(), fault.level),
-    }
+/// The number and the level of a refusal; none for a move that was made.
+fn refusal<S: System>(system: &mut S, m: Move) -> Option<(u8, u8)> {
+    let fault = make_move(system, m).err()?;
+    Some((fault.refusal.number(), fault.level))
 }
 
 /// The layers over a system of two words, which has come to where Right-Arc draws from the root to word 1, and comes by
@@ -47,48 +39,39 @@ fn refusal<S: System>(system: &mut S, m: Move) -> (u8, u8) {
 fn check_levels<S: System + Drop>(rt: &impl Abort, system: S, foreign: Move, further: &[Move]) {
     let mut system = layered(system);
     assert_eq!(rt; system.height(), 3);
-    assert_eq!(rt; refusal(&mut system, foreign), (3, 0));
-    assert_eq!(rt; refusal(&mut system, Move::LeftArc(2)), (22, 0));
-    assert_eq!(rt; refusal(&mut system, Move::RightArc(2)), (31, 1));
-    assert_eq!(rt; refusal(&mut system, Move::RightArc(3)), (31, 3));
-    assert_eq!(rt; refusal(&mut system, Move::RightArc(200)), (0, 0));
-    for m in further.iter() {
-        assert_eq!(rt; refusal(&mut system, *m), (0, 0));
+    assert_eq!(rt; refusal(&mut system, foreign), Some((3, 0)));
+    assert_eq!(rt; refusal(&mut system, Move::LeftArc(2)), Some((22, 0)));
+    assert_eq!(rt; refusal(&mut system, Move::RightArc(2)), Some((31, 1)));
+    assert_eq!(rt; refusal(&mut system, Move::RightArc(3)), Some((31, 3)));
+    assert_eq!(rt; refusal(&mut system, Move::RightArc(200)), None);
+    for m in further {
+        assert_eq!(rt; refusal(&mut system, *m), None);
     }
-    assert_eq!(rt; refusal(&mut system, Move::RightArc(2)), (31, 1));
-    assert_eq!(rt; refusal(&mut system, Move::RightArc(3)), (30, 2));
-    assert_eq!(rt; refusal(&mut system, Move::RightArc(1)), (30, 2));
-    assert_eq!(rt; system.arc_into(2).is_none(), true);
+    assert_eq!(rt; refusal(&mut system, Move::RightArc(2)), Some((31, 1)));
+    assert_eq!(rt; refusal(&mut system, Move::RightArc(3)), Some((30, 2)));
+    assert_eq!(rt; refusal(&mut system, Move::RightArc(1)), Some((30, 2)));
+    assert_eq!(rt; system.arc_into(2), None);
 }
 
 #[test]
 fn levels_standard(rt: HostRuntime) -> Result<(), Fail> {
-    let Ok(words) = WordCount::new(2) else {
-        assert!(rt; false);
-        return Ok(());
-    };
+    let words = WordCount::new(2)?;
     let mut system = ArcStandard::new(words);
-    assert!(rt; system.step(Move::Shift).is_ok());
+    system.step(Move::Shift)?;
     check_levels(&rt, system, Move::Reduce, &[Move::Shift]);
     Ok(())
 }
 
 #[test]
 fn levels_eager(rt: HostRuntime) -> Result<(), Fail> {
-    let Ok(words) = WordCount::new(2) else {
-        assert!(rt; false);
-        return Ok(());
-    };
+    let words = WordCount::new(2)?;
     check_levels(&rt, ArcEager::new(words), Move::NoArc, &[Move::Reduce]);
     Ok(())
 }
 
 #[test]
 fn levels_lists(rt: HostRuntime) -> Result<(), Fail> {
-    let Ok(words) = WordCount::new(2) else {
-        assert!(rt; false);
-        return Ok(());
-    };
+    let words = WordCount::new(2)?;
     check_levels(
         &rt,
         ListBased::new(words),
@@ -101,10 +84,7 @@ fn levels_lists(rt: HostRuntime) -> Result<(), Fail> {
 // Two words that hang on the root.
 #[test]
 fn heads_0_0_one_root(rt: HostRuntime) -> Result<(), Fail> {
-    let Ok(words) = WordCount::new(2) else {
-        assert!(rt; false);
-        return Ok(());
-    };
+    let words = WordCount::new(2)?;
     let heap = rt.alloc();
     let table = [Row { head: 0, label: 1 }, Row { head: 0, label: 2 }];
     let bare = answer(heap, build(heap, &mut ArcStandard::new(words), &table))?;
@@ -124,10 +104,7 @@ fn heads_0_0_one_root(rt: HostRuntime) -> Result<(), Fail> {
 // A table with a label outside the set, and one within it.
 #[test]
 fn labels_in_set(rt: HostRuntime) -> Result<(), Fail> {
-    let Ok(words) = WordCount::new(1) else {
-        assert!(rt; false);
-        return Ok(());
-    };
+    let words = WordCount::new(1)?;
     let heap = rt.alloc();
     let mut system = Layer::new(all_but(2), ArcStandard::new(words));
     assert_eq!(rt;
