@@ -1,2 +1,1 @@
 pub mod Stacked
-pub mod Counted

@@ -67,15 +67,15 @@ usual_arc w a =
     (usual_stored HasHead (is_some (arc_into w a.word)) _ (λ e. omega arith)
     (usual_stored WouldCircle (circles w a) _ (λ e. omega arith) tt)))
 
-not_foreign : (v : Verdict) → Usual v → Foreign v → ⊥
+pub not_foreign : (v : Verdict) → Usual v → Foreign v → ⊥
 not_foreign (Ok a) u f = f
 not_foreign (Err f) u e = u.1 e
 
-usual_level : (v : Verdict) (f : Fault) → Usual v → v ≡ Err f → f.level ≤ 0
+pub usual_level : (v : Verdict) (f : Fault) → Usual v → v ≡ Err f → f.level ≤ 0
 usual_level (Ok a) f u e = absurd (let z : ◌≡◌ {A = ℕ} 0 1 = cc in omega arith)
 usual_level (Err g) f u e = let same : g ≡ f = cc in let l = u.0 in omega (arith, ap (λ (x : Fault). x.level) same)
 
-foreign_level : (f : Fault) → ◌≡◌ {A = Verdict} (refused ForeignMove) (Err f) → f.level ≤ 0
+pub foreign_level : (f : Fault) → ◌≡◌ {A = Verdict} (refused ForeignMove) (Err f) → f.level ≤ 0
 foreign_level f e = let same : fault ForeignMove 0 ≡ f = cc in omega (arith, ap (λ (x : Fault). x.level) same)
 
 -- a system that refuses its own moves as usual, and the others as foreign

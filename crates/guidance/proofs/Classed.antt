@@ -14,7 +14,7 @@ refusal_of : (x y : Refusal) → Refused x ≡ Refused y → x ≡ y
 refusal_of x y e = cc
 
 module _ (M : Meaning) (start : ℕ → M.Config) (Class : List Row → Type 0) (reaches : ReachesExactly M start Class) (w : List Row) where
-  built_class : (ms : List Move) (d : M.Config) → Built M start w ms d → Makes M start Class w ms
+  pub built_class : (ms : List Move) (d : M.Config) → Built M start w ms d → Makes M start Class w ms
   built_class ms d b =
       let (small, good) = b.good in
       record {
@@ -23,7 +23,7 @@ module _ (M : Meaning) (start : ℕ → M.Config) (Class : List Row → Type 0) 
         run = (d, b.follows, b.run, b.finished, b.same);
       }
 
-  no_class : {S : Type 0} (conf : S → M.Config) (s : S) (e : BuildError) (t : S) → NotBuilt M conf start (Unit {0}) w s e t → MakesNot Class w e
+  pub no_class : {S : Type 0} (conf : S → M.Config) (s : S) (e : BuildError) (t : S) → NotBuilt M conf start (Unit {0}) w s e t → MakesNot Class w e
   no_class conf s (Refused why) t (inl (many, f, same)) = inl (many, refusal_of why TooManyWords f)
   no_class conf s (Refused why) t (inr (inl (few, bad, f, same))) = inr (inl (few, bad, refusal_of why BadRow f))
   no_class conf s (Refused why) t (inr (inr (few, good, (f, stuck), same))) = inr (inr (few, good, (λ c. stuck tt ((reaches (length w) w few good).1 c)), f))

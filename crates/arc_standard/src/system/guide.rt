@@ -24,7 +24,8 @@ impl ArcStandard {
     fn is_served(&self, table: &[Row], node: u8) -> bool
         ensures { result ≡ served (held self.now).rows table.now node (words (held self.now)) }
     {
-        (1..=self.arcs.words().get()).all(|word| self.serves(table, node, word))
+        // An open end behind the last word: `1..=n` keeps a flag beside the numbers, and each turn costs more.
+        (1..self.arcs.words().get() + 1).all(|word| self.serves(table, node, word))
     }
 
     fn shift_advice(&self) -> Option<Move>
